@@ -1,0 +1,4 @@
+pub mod Ambiguity
+pub mod Charges
+pub mod Slots
+pub mod Turns
