@@ -15,7 +15,6 @@ unfolding plan-of
 edges-count d = length-take-le (d .count) (d .rows .now) (d .within)
 
 pub rows-count : (d : Drawing) → rows-of d ≡ length (d .rows .now)
-unfolding rows-of
 rows-count d = refl
 
 -- the plan of every drawing is sound

@@ -39,7 +39,7 @@ plan-of d = record { limits = limits-of (d .limits); edges = take (d .count) (d 
 unfoldable pub spare-of : Drawing → List EdgeRow
 spare-of d = drop (d .count) (d .rows .now)
 
-unfoldable pub rows-of : Drawing → ℕ
+abbrev pub rows-of : Drawing → ℕ
 rows-of d = length (d .rows .now)
 
 abbrev pub no-row : EdgeRow

@@ -45,8 +45,9 @@ impl Drawing<'_> {
     fn check_room(&self) -> Result<(), PlanFault>
         ensures value { λ r. ⌜ r ≡ answered (room-fault (rows-of (now (self .entry))) (plan-of (now (self .entry)) .edges)) tt ⌝ }
     {
-        if self.count >= self.rows.len() || self.count >= MOST_EDGES {
-            return Err(PlanFault::Full(self.count as u32));
+        let drawn = self.edges().len();
+        if drawn >= self.rows.len() || drawn >= MOST_EDGES {
+            return Err(PlanFault::Full(drawn as u32));
         }
         Ok(())
     }
@@ -55,11 +56,12 @@ impl Drawing<'_> {
     fn check_neighbours(&self, start: u32, end: u32) -> Result<(), PlanFault>
         ensures value { λ r. ⌜ r ≡ answered (neighbour-fault (plan-of (now (self .entry)) .edges) start end) tt ⌝ }
     {
-        let place = place_of(self.edges(), start, end);
-        if place < self.count {
+        let edges = self.edges();
+        let place = place_of(edges, start, end);
+        if place < edges.len() {
             return Err(PlanFault::Repeated(place as u32));
         }
-        if leaving_count(self.edges(), start) >= MOST_LEAVING {
+        if leaving_count(edges, start) >= MOST_LEAVING {
             return Err(PlanFault::Crowded(start));
         }
         Ok(())

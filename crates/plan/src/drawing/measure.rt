@@ -30,7 +30,7 @@ impl Drawing<'_> {
     pub fn check_drawn(&self, edge: u32) -> Result<(), PlanFault>
         ensures value { λ r. ⌜ r ≡ answered (drawn-fault (plan-of (now (self .entry)) .edges) edge) tt ⌝ }
     {
-        if edge as usize >= self.count {
+        if edge as usize >= self.edges().len() {
             return Err(PlanFault::NotDrawn(edge));
         }
         Ok(())

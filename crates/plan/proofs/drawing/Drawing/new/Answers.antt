@@ -3,5 +3,5 @@ use Rattle.plan.specs.Plans.{plan-of, rows-of, spare-of}
 use Rattle.plan.proofs.drawing.Drawing.new.Needs as need
 
 pub returns : need.returns
-unfolding plan-of rows-of spare-of
+unfolding plan-of spare-of
 returns c = search needs

@@ -39,7 +39,7 @@ ghost-self c =
     )
 
 pub returns : need.returns
-unfolding plan-of rows-of spare-of
+unfolding plan-of spare-of
 returns c =
     let self : Drawing = c .args .self .now in
     let d = drawable (rows-of self) (plan-of self .edges) (c .args .row) (c .pre) in

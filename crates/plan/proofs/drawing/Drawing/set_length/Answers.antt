@@ -37,7 +37,7 @@ ghost-self c =
     )
 
 pub returns : need.returns
-unfolding plan-of rows-of spare-of
+unfolding plan-of spare-of
 returns c =
     let self : Drawing = c .args .self .now in
     let drawn : c .args .at < self .count = omega (arith, edges-count self, c .pre .1) in

@@ -1,0 +1,10 @@
+pub mod Rows
+pub mod Orders
+pub mod Adding
+pub mod Reading
+pub mod Charges
+pub mod Distances
+pub mod Faults
+pub mod Weights
+pub mod Tallies
+pub mod Rankings

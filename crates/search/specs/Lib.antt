@@ -1,0 +1,4 @@
+pub mod Grounds
+pub mod Labels
+pub mod Queues
+pub mod Stages

@@ -1,0 +1,11 @@
+pub mod Order
+pub mod Push
+pub mod Back
+pub mod Options
+pub mod Routes
+pub mod Alike
+pub mod Certificate
+pub mod Tally
+pub mod Keys
+pub mod Loop
+pub mod Relax

@@ -1,0 +1,4 @@
+pub mod Networks
+pub mod Labels
+pub mod Laws
+pub mod Loop
