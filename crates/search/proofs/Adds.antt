@@ -1,6 +1,6 @@
 -- Why an addition is refused, and what is known of the numbers that a search adds.
 use Prim.Native.Nat.{ℕ, _<_, _≤_}
-use mathlib.Core.Path.{_≡_, refl, sym, _∙_}
+use mathlib.Core.Path.{_≡_, refl, sym, ap, _∙_}
 use mathlib.Core.Bool.{Bool, true, false, not}
 use mathlib.Core.Logic.{_⊎_, inl, inr}
 use native.Mathlib.Omega.{arith}
@@ -9,7 +9,11 @@ use lib.ListN.{length}
 use Rattle.std.proofs.shelf.Tests.{cases-lt, and-parts, leb-true, ltb-true, false≢true}
 use Rattle.cost.specs.Adding.{addable}
 use Rattle.cost.proofs.AddLaws.{addable-from}
-use Rattle.plan.specs.Plans.{Plan, Sound, edge-at}
+use Rattle.plan.specs.Plans.{Plan, Sound, edge-at, no-row, plan-of}
+use Rattle.plan.specs.declared.drawing.Drawing.{Drawing}
+use Rattle.plan.specs.declared.row.EdgeRow.{EdgeRow}
+use Rattle.plan.proofs.Drawn.{sound-of}
+use Rattle.std.proofs.shelf.Lists.{getD-past}
 
 -- a cost that takes no more, at a charge and a length that it takes, has all its additions
 pub spent : (charge long n : ℕ) → false ≡ addable charge long n → charge ≤ 1000 → long ≤ 100000 → 1024 ≤ n
@@ -31,3 +35,11 @@ edge-long p e sound drawn =
     let d = and-parts (ltb 0 (edge-at p e .length)) _ (c .1) in
     let f = and-parts (leb (edge-at p e .length) 100000) _ (d .1) in
     record { some = ltb-true 0 (edge-at p e .length) (d .0); most = leb-true (edge-at p e .length) 100000 (f .0) }
+
+-- no edge is longer, drawn or not
+pub any-long : (d : Drawing) (e : ℕ) → edge-at (plan-of d) e .length ≤ 100000
+any-long d e = go (cases-lt e (length (plan-of d .edges)))
+  where
+    go : (e < length (plan-of d .edges)) ⊎ (length (plan-of d .edges) ≤ e) → edge-at (plan-of d) e .length ≤ 100000
+    go (inl l) = edge-long (plan-of d) e (sound-of d) l .most
+    go (inr l) = let z = ap (λ (r : EdgeRow). r .length) (getD-past (plan-of d .edges) e no-row l) in omega (arith, z)

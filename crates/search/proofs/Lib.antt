@@ -5,3 +5,4 @@ pub mod Slots
 pub mod Starts
 pub mod Steps
 pub mod Takes
+pub mod Traces

@@ -2,3 +2,4 @@ pub mod Grounds
 pub mod Labels
 pub mod Queues
 pub mod Stages
+pub mod Traces

@@ -8,6 +8,7 @@ mod order;
 mod queue;
 mod relax;
 mod settle;
+mod trace;
 
 pub use label::Label;
 pub use queue::QueueSlot;
