@@ -1,5 +1,8 @@
 pub mod Adds
+pub mod Agreeing
+pub mod Asks
 pub mod Eaches
+pub mod Founds
 pub mod Marks
 pub mod Slots
 pub mod Starts

@@ -59,6 +59,7 @@ module _ {C : Type 0} (K : Kind C) where
     where
       n : length (map (meaning K) ls) ≡ length ls
       n = length-map ls (meaning K)
+
       go : (e ≡ f) ⊎ (e ≡ f → ⊥) → with-label (label-in K ls) f (plain K x) e ≡ label-in K (set ls f x) e
       go (inl q) =
           let m : f < length (map (meaning K) ls) = omega (arith, n) in

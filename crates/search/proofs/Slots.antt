@@ -83,11 +83,12 @@ module _ (slots : List QueueSlot) (m n at : ℕ) (filled : Filled slots (m + 1) 
         room = omega (arith, filled .room, length-set slots at (getD slots m no-slot));
         once = λ e. omega (arith, filled .once e, after e);
         drawn = drawn-less;
-        counted = omega (arith, filled .counted, less, tally-same _ _ n (λ k _. taken-out k))
+        counted = omega (arith, filled .counted, less, tally-same _ _ n (λ k _. taken-out k));
       }
     where
       less : tally (in-queue slots (m + 1)) n ≡ tally (with-flag (in-queue slots (m + 1)) (edge-in slots at) false) n + 1
       less = tally-more (with-flag (in-queue slots (m + 1)) (edge-in slots at) false) (in-queue slots (m + 1)) n (edge-in slots at) (filled .drawn at h) (flag-same (in-queue slots (m + 1)) (edge-in slots at) false) (standing slots (m + 1) at h l) (λ k q. flag-other (in-queue slots (m + 1)) (edge-in slots at) false k q)
+
       drawn-less : (k : ℕ) → k < m → edge-in (moved-up slots m at) k < n
       drawn-less k q = go (cases-eq k at)
         where
@@ -127,16 +128,18 @@ module _ (slots : List QueueSlot) (len n f : ℕ) (filled : Filled slots len n) 
         room = omega (arith, filled .room, length-set slots len (record { edge = f }));
         once = λ e. once-more e (cases-eq e f);
         drawn = drawn-more;
-        counted = omega (arith, filled .counted, more, tally-same _ _ n (λ k _. brought-in k))
+        counted = omega (arith, filled .counted, more, tally-same _ _ n (λ k _. brought-in k));
       }
     where
       more : tally (with-flag (in-queue slots len) f true) n ≡ tally (in-queue slots len) n + 1
       more = tally-more (in-queue slots len) (with-flag (in-queue slots len) f true) n f drawn new (flag-same (in-queue slots len) f true) (λ k q. sym (flag-other (in-queue slots len) f true k q))
+
       once-more : (e : ℕ) → (e ≡ f) ⊎ (e ≡ f → ⊥) → times (put-in slots len f) (len + 1) e ≤ 1
       once-more e (inl q) =
           let z : times slots len e ≤ 0 = ltb-false 0 (times slots len e) (ap (in-queue slots len) q ∙ new) in
           omega (arith, grown e, one-same e f (sym q), z)
       once-more e (inr q) = omega (arith, grown e, one-other e f (λ z. q (sym z)), filled .once e)
+
       drawn-more : (k : ℕ) → k < len + 1 → edge-in (put-in slots len f) k < n
       drawn-more k q = go (cases-eq k len)
         where

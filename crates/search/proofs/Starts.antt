@@ -56,7 +56,7 @@ module _ {R C : Type 0} (T : Rule R) (K : Kind C) (measured : Measured K) (g : G
         room = room;
         once = λ e. omega arith;
         drawn = λ k h. absurd (omega arith);
-        counted = tally-none (in-queue slots 0) (length (plan-of (g .drawing .now) .edges)) (λ k _. refl)
+        counted = tally-none (in-queue slots 0) (length (plan-of (g .drawing .now) .edges)) (λ k _. refl);
       }
 
   working-none : Working K g ls slots 0
@@ -66,7 +66,7 @@ module _ {R C : Type 0} (T : Rule R) (K : Kind C) (measured : Measured K) (g : G
         covered = covered;
         fine = blank-each K (settings-of K g) ls blank;
         filled = filled-none;
-        waiting = λ e d h q. absurd (false≢true q)
+        waiting = λ e d h q. absurd (false≢true q);
       }
 
   module _ (x : Label C) (fine : Fine K (settings-of K g) x) (opens : Opens K g a x) where
@@ -83,6 +83,7 @@ module _ {R C : Type 0} (T : Rule R) (K : Kind C) (measured : Measured K) (g : G
       where
         same : plain K x ≡ first-label (net-of T K g) a
         same = label-from-parts (plain K x) (first-label (net-of T K g) a) (opens .row) (opens .edges) (opens .previous)
+
         labels : (e : ℕ) → with-label (λ _. None) a (first-label (net-of T K g) a) e ≡ label-in K (set ls a x) e
         labels e =
             ap (λ m. with-label (λ _. None) a m e) (sym same)
@@ -118,7 +119,7 @@ module _ {R C : Type 0} (K : Kind C) (measured : Measured K) (g : Ground R C) (a
   opening-opens sum =
       record {
         row = sum ∙ ap (λ z. plus z (K .amount (K .settings empty) 0 long)) nothing ∙ zeros-plus (K .places) (K .amount (K .settings empty) 0 long) (measured (K .settings empty) 0 long)
-          ∙ ap (λ s. K .amount s 0 long) kept ∙ ap (K .amount (settings-of K g) 0) reads;
+            ∙ ap (λ s. K .amount s 0 long) kept ∙ ap (K .amount (settings-of K g) 0) reads;
         edges = refl;
-        previous = refl
+        previous = refl;
       }

@@ -51,9 +51,9 @@ module _ {R C : Type 0} (T : Rule R) (K : Kind C) (measured : Measured K) (g : G
   pub keeps-none : (Usable (net-of T K g) to → Step (net-of T K g) from to → 1024 ≤ x .edges) → Keeps T K g ls slots len ls slots len x from to (to + 1)
   keeps-none full a n r =
       relax-keep r (λ u s.
-        let few = sound-of (g .drawing .now) .few in
-        let all = relax-full even r (omega (arith, few, full u s)) (to + 1) in
-        all .closed from to (plain K x) (r .labelled) (r .taken) (λ _. omega arith) u s)
+      let few = sound-of (g .drawing .now) .few in
+      let all = relax-full even r (omega (arith, few, full u s)) (to + 1) in
+      all .closed from to (plain K x) (r .labelled) (r .taken) (λ _. omega arith) u s)
 
   drawn-here : to < length (plan-of (g .drawing .now) .edges)
   drawn-here = omega (arith, w .size)
@@ -74,7 +74,7 @@ module _ {R C : Type 0} (T : Rule R) (K : Kind C) (measured : Measured K) (g : G
             covered = w .covered;
             fine = each-set (Fine K (settings-of K g)) ls to new (w .fine) fine;
             filled = filled-more slots len (length (plan-of (g .drawing .now) .edges)) to (w .filled) apart drawn-here;
-            waiting = λ e d h q. go e d (omega (arith, length-set ls to new)) q (cases-eq e to)
+            waiting = λ e d h q. go e d (omega (arith, length-set ls to new)) q (cases-eq e to);
           }
         where
           go : (e : ℕ) (d : Label C) → e < length ls → in-queue (put-in slots len to) (len + 1) e ≡ true → (e ≡ to) ⊎ (e ≡ to → ⊥) → 0 < getD (set ls to new) e d .edges
@@ -94,7 +94,7 @@ module _ {R C : Type 0} (T : Rule R) (K : Kind C) (measured : Measured K) (g : G
           covered = w .covered;
           fine = each-set (Fine K (settings-of K g)) ls to new (w .fine) fine;
           filled = w .filled;
-          waiting = λ e d h q. go e d (omega (arith, length-set ls to new)) q (cases-eq e to)
+          waiting = λ e d h q. go e d (omega (arith, length-set ls to new)) q (cases-eq e to);
         }
       where
         go : (e : ℕ) (d : Label C) → e < length ls → in-queue slots len e ≡ true → (e ≡ to) ⊎ (e ≡ to → ⊥) → 0 < getD (set ls to new) e d .edges
@@ -148,6 +148,7 @@ module _ {R C : Type 0} (T : Rule R) (K : Kind C) (measured : Measured K) (g : G
         where
           less : LabelLess (extension (net-of T K g) (plain K x) from to) (plain K old)
           less = subst (λ m. LabelLess m (plain K old)) (offered .value) h
+
           queued : in-queue slots len to ≡ true
           queued = go (cases-bool (in-queue slots len to))
             where

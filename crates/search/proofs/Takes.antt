@@ -32,7 +32,7 @@ module _ {R C : Type 0} (T : Rule R) (K : Kind C) (g : Ground R C) (ls : List (L
         covered = w .covered;
         fine = w .fine;
         filled = filled-less slots m (length (plan-of (g .drawing .now) .edges)) at (w .filled) there within;
-        waiting = λ e d h q. w .waiting e d h (flag-kept (in-queue slots (m + 1)) (edge-in slots at) false true e false≢ (taken-out slots m (length (plan-of (g .drawing .now) .edges)) at (w .filled) there within e ∙ q))
+        waiting = λ e d h q. w .waiting e d h (flag-kept (in-queue slots (m + 1)) (edge-in slots at) false true e false≢ (taken-out slots m (length (plan-of (g .drawing .now) .edges)) at (w .filled) there within e ∙ q));
       }
     where
       false≢ : false ≡ true → ⊥

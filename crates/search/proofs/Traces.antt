@@ -104,7 +104,7 @@ tracing-start g L last before t x place h room short p q =
       short = short;
       places = refl;
       sum = omega arith;
-      total = refl
+      total = refl;
     }
 
 module _ (g : Network) (L : Labelling) (last : ℕ) (before : List ℕ) (at place : ℕ) (route : List ℕ) (charge long : ℕ) (i : Tracing g L last before at place route charge long) where
@@ -128,7 +128,7 @@ module _ (g : Network) (L : Labelling) (last : ℕ) (before : List ℕ) (at plac
         short = i .short;
         places = ap (λ k. written (x .previous) r (set route k at)) (sym n) ∙ sym (ap (λ s. written at s route) (on .1)) ∙ i .places;
         sum = omega (arith, i .sum, c);
-        total = omega (arith, i .total, l)
+        total = omega (arith, i .total, l);
       }
 
   pub tracing-charge : (most : ℕ) → ((e f : ℕ) → g .charge e f ≤ most) → (x : Mark) → 0 < place → L at ≡ Some x → charge + g .charge (x .previous) at ≤ most * 1024
@@ -150,7 +150,7 @@ module _ (g : Network) (L : Labelling) (last : ℕ) (before : List ℕ) (at plac
       (record {
         route = sym (ap (λ s. written at s route) z) ∙ i .places ∙ written-is last (i .whole) before (i .room);
         charges = omega (arith, i .sum, ap (charges g at) z, charges-walk g last (i .whole));
-        lengths = omega (arith, i .total, ap (lengths g) z, lengths-walk g last (i .whole))
+        lengths = omega (arith, i .total, ap (lengths g) z, lengths-walk g last (i .whole));
       })
 
 module _ {R C : Type 0} (T : Rule R) (K : Kind C) (g : Ground R C) (ls : List (Label C)) where

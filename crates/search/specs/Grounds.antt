@@ -28,7 +28,7 @@ network p sheet charge places amount =
       long = λ e. edge-at p e .length;
       places = places;
       charge = charge;
-      amount = amount
+      amount = amount;
     }
 
 abbrev pub net : {R C : Type 0} → Rule R → (K : Kind C) → Plan → List ℕ → R → K .Settings → Network

@@ -8,9 +8,10 @@
 --   label-in K ls e   what the labels ls hold for the edge e, in this sense
 --   Blank K s x       x is the label of an edge to which no walk leads: the empty cost with the settings s, 0 edges and the previous edge 65,535
 --   Fine K s x        x has the settings s and as many additions as edges, and is Blank where it has no edges
+--   Short K ls n      no label of ls is of a walk with more than n edges
 --   Each P xs         P holds of each element of xs
 -- Assumes nothing.
-use Prim.Native.Nat.{ℕ, _<_}
+use Prim.Native.Nat.{ℕ, _<_, _≤_}
 use mathlib.Core.Path.{_≡_}
 use mathlib.Core.Bool.{cond}
 use mathlib.Core.List.{List, map}
@@ -46,3 +47,6 @@ pub record Fine {C : Type 0} (K : Kind C) (s : K .Settings) (x : Label C) : Type
 
 abbrev pub Each : {X : Type 0} → (X → Type 0) → List X → Type 0
 Each {X} P xs = (k : ℕ) (d : X) → k < length xs → P (getD xs k d)
+
+abbrev pub Short : {C : Type 0} → Kind C → List (Label C) → ℕ → Type 0
+Short K ls n = (e : ℕ) (x : Mark) → label-in K ls e ≡ Some x → x .edges ≤ n

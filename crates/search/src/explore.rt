@@ -5,7 +5,7 @@ ghost use lib.ListN.{length};
 ghost use Rattle.plan.specs.Plans.{plan-of};
 ghost use Rattle.walks.specs.Labels.{Certified};
 ghost use Rattle.search.specs.Grounds.{net-of, settings-of};
-ghost use Rattle.search.specs.Labels.{Each, Fine, label-in};
+ghost use Rattle.search.specs.Labels.{Each, Fine, Short, label-in};
 ghost use Rattle.search.specs.Stages.{Opens};
 use crate::clear::clear;
 use crate::ground::Ground;
@@ -18,12 +18,18 @@ use cost::CostKind;
 use rules::TurnRule;
 
 // Labels every drawn edge for walks from the edge `first`: with the simplest walk to it, or as one to which no walk leads.
-pub fn explore<R: TurnRule, C: CostKind>(ground: &Ground<'_, '_, R, C>, first: u16, labels: &mut [Label<C>], queue: &mut [QueueSlot])
+pub fn explore<R: TurnRule, C: CostKind>(
+    ground: &Ground<'_, '_, R, C>,
+    first: u16,
+    labels: &mut [Label<C>],
+    queue: &mut [QueueSlot],
+)
     requires size { ⌜ length (now labels) ≡ length (plan-of (now ground .drawing .now) .edges) ⌝ }
     requires covered { ⌜ length (plan-of (now ground .drawing .now) .edges) ≤ length (now ground .sheet .now) ⌝ }
     requires room { ⌜ length (plan-of (now ground .drawing .now) .edges) ≤ length (now queue) ⌝ }
     requires drawn { ⌜ first < length (now labels) ⌝ }
     ensures fine { λ _. ⌜ Each (Fine C·CostKind (settings-of C·CostKind (now (ground .entry)))) (now (labels .exit)) ⌝ }
+    ensures short { λ _. ⌜ Short C·CostKind (now (labels .exit)) (length (plan-of (now (ground .entry) .drawing .now) .edges)) ⌝ }
     ensures certified { λ _. ⌜ Certified (net-of R·TurnRule C·CostKind (now (ground .entry))) first (label-in C·CostKind (now (labels .exit))) ⌝ }
 {
     clear(labels, ground.cost);

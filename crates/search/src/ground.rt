@@ -2,6 +2,7 @@
 use plan::Drawing;
 
 /// The drawing, the closing sheet, the turn rule and the cost of a question. Of the cost only the settings are read.
+#[derive(Drop)]
 pub struct Ground<'a, 'b, R, C> {
     pub drawing: &'a Drawing<'b>,
     pub sheet: &'a [u8],

@@ -13,7 +13,12 @@ use cost::CostKind;
 use rules::TurnRule;
 
 // The label of the edge `to` by a step from `from`, whose label is x; none where no step leads to it, where it is shut, or where the walk has 1,024 edges.
-pub fn offer<R: TurnRule, C: CostKind>(ground: &Ground<'_, '_, R, C>, x: Label<C>, from: u16, to: u16) -> Option<Label<C>>
+pub fn offer<R: TurnRule, C: CostKind>(
+    ground: &Ground<'_, '_, R, C>,
+    x: Label<C>,
+    from: u16,
+    to: u16,
+) -> Option<Label<C>>
     requires drawn { ⌜ to < length (plan-of (now ground .drawing .now) .edges) ⌝ }
     requires covered { ⌜ length (plan-of (now ground .drawing .now) .edges) ≤ length (now ground .sheet .now) ⌝ }
     requires fine { ⌜ Fine C·CostKind (settings-of C·CostKind (now ground)) x ⌝ }

@@ -11,7 +11,12 @@ use cost::CostKind;
 use rules::TurnRule;
 
 // Takes the edge with the least label out of the queue, relaxes its steps, and answers the length of the queue then.
-pub fn settle<R: TurnRule, C: CostKind>(ground: &Ground<'_, '_, R, C>, labels: &mut [Label<C>], queue: &mut [QueueSlot], len: usize) -> usize
+pub fn settle<R: TurnRule, C: CostKind>(
+    ground: &Ground<'_, '_, R, C>,
+    labels: &mut [Label<C>],
+    queue: &mut [QueueSlot],
+    len: usize,
+) -> usize
     requires working { ⌜ Working C·CostKind (now ground) (now labels) (now queue) len ⌝ }
     requires some { ⌜ 0 < len ⌝ }
     ensures working { λ r. ⌜ Working C·CostKind (now (ground .entry)) (now (labels .exit)) (now (queue .exit)) r ⌝ }

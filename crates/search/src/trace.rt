@@ -15,7 +15,12 @@ use rules::TurnRule;
 
 // Writes the walk to the edge `last` to the beginning of the route list, by the previous edges of the labels, and answers the sums of its charges and of its
 // lengths.
-pub fn trace<R: TurnRule, C: CostKind>(ground: &Ground<'_, '_, R, C>, labels: &[Label<C>], last: u16, route: &mut [u16]) -> (u32, u32)
+pub fn trace<R: TurnRule, C: CostKind>(
+    ground: &Ground<'_, '_, R, C>,
+    labels: &[Label<C>],
+    last: u16,
+    route: &mut [u16],
+) -> (u32, u32)
     requires size { ⌜ length-of (now labels) ≡ length-of (plan-of (now ground .drawing .now) .edges) ⌝ }
     requires drawn { ⌜ last < length-of (now labels) ⌝ }
     requires trail { ⌜ Traceable (net-of R·TurnRule C·CostKind (now ground)) (label-in C·CostKind (now labels)) last (length-of (now route)) ⌝ }
@@ -30,7 +35,9 @@ pub fn trace<R: TurnRule, C: CostKind>(ground: &Ground<'_, '_, R, C>, labels: &[
     while place > 0 {
         route[place] = at;
         let reached = labels[at as usize];
-        charge += ground.rule.charge(ground.drawing, reached.previous as u32, at as u32);
+        charge += ground
+            .rule
+            .charge(ground.drawing, reached.previous as u32, at as u32);
         at = reached.previous;
         length += edges[at as usize].length;
         place -= 1;

@@ -16,5 +16,5 @@ returns g c =
     let taken : c .add .result ≡ true = opening-added (g .C·CostKind) (g .C·CostKind·met .measured) (c .args .ground .now) (c .args .first) (c .empty-cost .result) (c .add .last .self) long reads most (c .empty-cost .ensures .same) (c .empty-cost .ensures .count) (c .empty-cost .ensures .zero) (c .add .result) (c .add .ensures .value) in
     record {
       fine = opening-fine (g .C·CostKind) (g .C·CostKind·met .measured) (c .args .ground .now) (c .args .first) (c .empty-cost .result) (c .add .last .self) long reads most (c .empty-cost .ensures .same) (c .empty-cost .ensures .count) (c .empty-cost .ensures .zero) (c .add .ensures .same) (c .add .ensures .count taken);
-      value = opening-opens (g .C·CostKind) (g .C·CostKind·met .measured) (c .args .ground .now) (c .args .first) (c .empty-cost .result) (c .add .last .self) long reads most (c .empty-cost .ensures .same) (c .empty-cost .ensures .count) (c .empty-cost .ensures .zero) (c .add .ensures .sum taken)
+      value = opening-opens (g .C·CostKind) (g .C·CostKind·met .measured) (c .args .ground .now) (c .args .first) (c .empty-cost .result) (c .add .last .self) long reads most (c .empty-cost .ensures .same) (c .empty-cost .ensures .count) (c .empty-cost .ensures .zero) (c .add .ensures .sum taken);
     }

@@ -20,6 +20,6 @@ loop-at-again g c =
     let W : Bool → Type 0 = λ b. When b (KeyLess (plain (g .C·CostKind) x) (plain (g .C·CostKind) y)) (KeyAtMost (plain (g .C·CostKind) y) (plain (g .C·CostKind) x)) in
     let G : ℕ → Type 0 = λ b. (b < c .loop-at .at + 1) × Least (g .C·CostKind) (c .args .labels .now) (c .args .queue .now) (c .loop-at .at + 1) b in
     elim (c .if-key-before .came) [
-      then-key-before w ↦ subst G (sym (w .best-is)) (omega arith, least-takes (g .C·CostKind) (c .args .labels .now) (c .args .queue .now) (c .loop-at .at) (c .loop-at .best) x y here there (c .index-labels-queue .is) (c .index-labels-queue-in-loop-at .is) (c .loop-at .inv .1) (subst W (w .if-key-before .taken) (c .key-before .ensures .cases)))
-    | else-key-before w ↦ subst G (sym (w .best-is)) (omega (arith, c .loop-at .inv .0), least-keeps (g .C·CostKind) (c .args .labels .now) (c .args .queue .now) (c .loop-at .at) (c .loop-at .best) x y here there (c .index-labels-queue .is) (c .index-labels-queue-in-loop-at .is) (c .loop-at .inv .1) (subst W (w .if-key-before .left) (c .key-before .ensures .cases)))
+      | then-key-before w ↦ subst G (sym (w .best-is)) (omega arith, least-takes (g .C·CostKind) (c .args .labels .now) (c .args .queue .now) (c .loop-at .at) (c .loop-at .best) x y here there (c .index-labels-queue .is) (c .index-labels-queue-in-loop-at .is) (c .loop-at .inv .1) (subst W (w .if-key-before .taken) (c .key-before .ensures .cases)))
+      | else-key-before w ↦ subst G (sym (w .best-is)) (omega (arith, c .loop-at .inv .0), least-keeps (g .C·CostKind) (c .args .labels .now) (c .args .queue .now) (c .loop-at .at) (c .loop-at .best) x y here there (c .index-labels-queue .is) (c .index-labels-queue-in-loop-at .is) (c .loop-at .inv .1) (subst W (w .if-key-before .left) (c .key-before .ensures .cases)))
     ]

@@ -16,7 +16,7 @@ offer-requires g c κs = record { drawn = omega (arith, c .pre .working .size, c
 pub returns-in-rest : need.returns-in-rest
 returns-in-rest g c = record {
   working = c .pre .working;
-  keeps = keeps-none (g .R·TurnRule) (g .C·CostKind) (g .C·CostKind·met .measured) (c .args .ground .now) (c .args .labels .now) (c .args .queue .now) (c .args .len) (c .pre .working) (c .args .x) (c .args .from) (c .args .to) (c .pre .drawn) (c .in-rest .ensures tt .cases)
+  keeps = keeps-none (g .R·TurnRule) (g .C·CostKind) (g .C·CostKind·met .measured) (c .args .ground .now) (c .args .labels .now) (c .args .queue .now) (c .args .len) (c .pre .working) (c .args .x) (c .args .from) (c .args .to) (c .pre .drawn) (c .in-rest .ensures tt .cases);
 }
 
 pub put-in-requires : need.put-in-requires
@@ -29,11 +29,11 @@ returns-then-old-eq0 g c =
     let ls : List (Label (g .C .Denot)) = set (c .args .labels .now) (c .args .to) (c .in-Some .new) in
     record {
       working = subst₂ (λ q r. Working (g .C·CostKind) (c .args .ground .now) ls q r) (sym (c .put-in .ensures .after)) (sym (c .put-in .ensures .value))
-        (working-new (g .R·TurnRule) (g .C·CostKind) (g .C·CostKind·met .measured) (c .args .ground .now) (c .args .labels .now) (c .args .queue .now) (c .args .len) (c .pre .working) (c .args .x) (c .args .from) (c .args .to) (c .pre .drawn)
-        (c .index-labels-at .result) (c .in-Some .new) (c .index-labels-at .is) (c .in-Some .ensures tt .cases) (c .if-old-eq0 .taken));
+          (working-new (g .R·TurnRule) (g .C·CostKind) (g .C·CostKind·met .measured) (c .args .ground .now) (c .args .labels .now) (c .args .queue .now) (c .args .len) (c .pre .working) (c .args .x) (c .args .from) (c .args .to) (c .pre .drawn)
+          (c .index-labels-at .result) (c .in-Some .new) (c .index-labels-at .is) (c .in-Some .ensures tt .cases) (c .if-old-eq0 .taken));
       keeps = subst₂ (λ q r. Keeps (g .R·TurnRule) (g .C·CostKind) (c .args .ground .now) (c .args .labels .now) (c .args .queue .now) (c .args .len) ls q r (c .args .x) (c .args .from) (c .args .to) (c .args .to + 1)) (sym (c .put-in .ensures .after)) (sym (c .put-in .ensures .value))
-        (keeps-new (g .R·TurnRule) (g .C·CostKind) (g .C·CostKind·met .measured) (c .args .ground .now) (c .args .labels .now) (c .args .queue .now) (c .args .len) (c .pre .working) (c .args .x) (c .args .from) (c .args .to) (c .pre .drawn)
-        (c .index-labels-at .result) (c .in-Some .new) (c .index-labels-at .is) (c .in-Some .ensures tt .cases) (c .if-old-eq0 .taken))
+          (keeps-new (g .R·TurnRule) (g .C·CostKind) (g .C·CostKind·met .measured) (c .args .ground .now) (c .args .labels .now) (c .args .queue .now) (c .args .len) (c .pre .working) (c .args .x) (c .args .from) (c .args .to) (c .pre .drawn)
+          (c .index-labels-at .result) (c .in-Some .new) (c .index-labels-at .is) (c .in-Some .ensures tt .cases) (c .if-old-eq0 .taken));
     }
 
 pub returns-then-label-before : need.returns-then-label-before
@@ -41,9 +41,9 @@ returns-then-label-before g c =
     let some : 0 < c .index-labels-at .result .edges = omega arith in
     record {
       working = working-better (g .R·TurnRule) (g .C·CostKind) (g .C·CostKind·met .measured) (c .args .ground .now) (c .args .labels .now) (c .args .queue .now) (c .args .len) (c .pre .working) (c .args .x) (c .args .from) (c .args .to) (c .pre .drawn)
-        (c .index-labels-at .result) (c .in-Some .new) (c .index-labels-at .is) (c .in-Some .ensures tt .cases) some;
+          (c .index-labels-at .result) (c .in-Some .new) (c .index-labels-at .is) (c .in-Some .ensures tt .cases) some;
       keeps = keeps-better (g .R·TurnRule) (g .C·CostKind) (g .C·CostKind·met .measured) (c .args .ground .now) (c .args .labels .now) (c .args .queue .now) (c .args .len) (c .pre .working) (c .args .x) (c .args .from) (c .args .to) (c .pre .drawn)
-        (c .index-labels-at .result) (c .in-Some .new) (c .index-labels-at .is) (c .in-Some .ensures tt .cases) some (c .if-label-before .ensures tt .cases)
+          (c .index-labels-at .result) (c .in-Some .new) (c .index-labels-at .is) (c .in-Some .ensures tt .cases) some (c .if-label-before .ensures tt .cases);
     }
 
 pub returns-else-label-before : need.returns-else-label-before
@@ -52,5 +52,5 @@ returns-else-label-before g c =
     record {
       working = c .pre .working;
       keeps = keeps-old (g .R·TurnRule) (g .C·CostKind) (g .C·CostKind·met .measured) (c .args .ground .now) (c .args .labels .now) (c .args .queue .now) (c .args .len) (c .pre .working) (c .args .x) (c .args .from) (c .args .to) (c .pre .drawn)
-        (c .index-labels-at .result) (c .in-Some .new) (c .index-labels-at .is) (c .in-Some .ensures tt .cases) some (c .if-label-before .ensures tt .cases)
+          (c .index-labels-at .result) (c .in-Some .new) (c .index-labels-at .is) (c .in-Some .ensures tt .cases) some (c .if-label-before .ensures tt .cases);
     }

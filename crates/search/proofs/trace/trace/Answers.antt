@@ -21,12 +21,13 @@ sub-place g c = omega (arith, trail-count (g .R·TurnRule) (g .C·CostKind) (c .
 pub loop-place-holds : need.loop-place-holds
 loop-place-holds g c =
     let n = trail-count (g .R·TurnRule) (g .C·CostKind) (c .args .ground .now) (c .args .labels .now) (c .args .last) (c .pre .trail .0) (c .index-labels-last .result) (c .pre .trail .1) (c .pre .drawn) (c .index-labels-last .is) in
-    let long = ap (λ rows. getD rows (c .args .last) no-row .length) (c .edges-edges .ensures .value) in
-    ( c .pre .drawn
-    , omega (arith, n, c .pre .trail .2)
-    , subst (Tracing (net-of (g .R·TurnRule) (g .C·CostKind) (c .args .ground .now)) (label-in (g .C·CostKind) (c .args .labels .now)) (c .args .last) (c .args .route .now) (c .args .last) (c .index-labels-last .result .edges - 1) (c .args .route .now) 0) (sym long)
-        (tracing-start (net-of (g .R·TurnRule) (g .C·CostKind) (c .args .ground .now)) (label-in (g .C·CostKind) (c .args .labels .now)) (c .args .last) (c .args .route .now) (c .pre .trail .0) (plain (g .C·CostKind) (c .index-labels-last .result)) (c .index-labels-last .result .edges - 1) (c .pre .trail .1) (c .pre .trail .2) (c .pre .trail .3)
-          (trail-plain (g .R·TurnRule) (g .C·CostKind) (c .args .ground .now) (c .args .labels .now) (c .args .last) (c .pre .trail .0) (c .index-labels-last .result) (c .pre .trail .1) (c .pre .drawn) (c .index-labels-last .is)) refl) )
+    let long = ap (λ rows. getD rows (c .args .last) no-row .length) (c .edges-edges .ensures .value) in (
+      c .pre .drawn,
+      omega (arith, n, c .pre .trail .2),
+      subst (Tracing (net-of (g .R·TurnRule) (g .C·CostKind) (c .args .ground .now)) (label-in (g .C·CostKind) (c .args .labels .now)) (c .args .last) (c .args .route .now) (c .args .last) (c .index-labels-last .result .edges - 1) (c .args .route .now) 0) (sym long)
+          (tracing-start (net-of (g .R·TurnRule) (g .C·CostKind) (c .args .ground .now)) (label-in (g .C·CostKind) (c .args .labels .now)) (c .args .last) (c .args .route .now) (c .pre .trail .0) (plain (g .C·CostKind) (c .index-labels-last .result)) (c .index-labels-last .result .edges - 1) (c .pre .trail .1) (c .pre .trail .2) (c .pre .trail .3)
+          (trail-plain (g .R·TurnRule) (g .C·CostKind) (c .args .ground .now) (c .args .labels .now) (c .args .last) (c .pre .trail .0) (c .index-labels-last .result) (c .pre .trail .1) (c .pre .drawn) (c .index-labels-last .is)) refl),
+    )
 
 pub cast-reached-in-loop-place : need.cast-reached-in-loop-place
 cast-reached-in-loop-place g c = omega (arith, previous-drawn (g .R·TurnRule) (g .C·CostKind) (c .args .ground .now) (c .args .labels .now) (c .args .last) (c .args .route .now) (c .loop-place .at) (c .loop-place .place) (c .loop-place .route) (c .loop-place .charge) (c .loop-place .length) (c .loop-place .inv .2) (c .loop-place-test .taken) (c .loop-place .inv .0) (c .index-labels-at .result) (c .index-labels-at .is), c .edges-edges .ensures .sound .few)
@@ -52,14 +53,15 @@ add-length g c =
 
 pub loop-place-again : need.loop-place-again
 loop-place-again g c =
-    let long = ap (λ rows. getD rows (c .index-labels-at .result .previous) no-row .length) (c .edges-edges .ensures .value) in
-    ( omega (arith, previous-drawn (g .R·TurnRule) (g .C·CostKind) (c .args .ground .now) (c .args .labels .now) (c .args .last) (c .args .route .now) (c .loop-place .at) (c .loop-place .place) (c .loop-place .route) (c .loop-place .charge) (c .loop-place .length) (c .loop-place .inv .2) (c .loop-place-test .taken) (c .loop-place .inv .0) (c .index-labels-at .result) (c .index-labels-at .is), c .pre .size)
-    , rw length-set (omega (arith, c .loop-place .inv .1))
-    , subst₂ (λ k l. Tracing (net-of (g .R·TurnRule) (g .C·CostKind) (c .args .ground .now)) (label-in (g .C·CostKind) (c .args .labels .now)) (c .args .last) (c .args .route .now) (c .index-labels-at .result .previous) (c .loop-place .place - 1) (set (c .loop-place .route) (c .loop-place .place) (c .loop-place .at)) (c .loop-place .charge + k) (c .loop-place .length + l))
-        (sym (c .charge-charge .ensures .value)) (sym long)
-        (tracing-again (g .R·TurnRule) (g .C·CostKind) (c .args .ground .now) (c .args .labels .now) (c .args .last) (c .args .route .now) (c .loop-place .at) (c .loop-place .place) (c .loop-place .route) (c .loop-place .charge) (c .loop-place .length) (c .loop-place .inv .2) (c .loop-place-test .taken) (c .loop-place .inv .0) (c .index-labels-at .result) (c .index-labels-at .is)) )
+    let long = ap (λ rows. getD rows (c .index-labels-at .result .previous) no-row .length) (c .edges-edges .ensures .value) in (
+      omega (arith, previous-drawn (g .R·TurnRule) (g .C·CostKind) (c .args .ground .now) (c .args .labels .now) (c .args .last) (c .args .route .now) (c .loop-place .at) (c .loop-place .place) (c .loop-place .route) (c .loop-place .charge) (c .loop-place .length) (c .loop-place .inv .2) (c .loop-place-test .taken) (c .loop-place .inv .0) (c .index-labels-at .result) (c .index-labels-at .is), c .pre .size),
+      rw length-set (omega (arith, c .loop-place .inv .1)),
+      subst₂ (λ k l. Tracing (net-of (g .R·TurnRule) (g .C·CostKind) (c .args .ground .now)) (label-in (g .C·CostKind) (c .args .labels .now)) (c .args .last) (c .args .route .now) (c .index-labels-at .result .previous) (c .loop-place .place - 1) (set (c .loop-place .route) (c .loop-place .place) (c .loop-place .at)) (c .loop-place .charge + k) (c .loop-place .length + l))
+          (sym (c .charge-charge .ensures .value)) (sym long)
+          (tracing-again (g .R·TurnRule) (g .C·CostKind) (c .args .ground .now) (c .args .labels .now) (c .args .last) (c .args .route .now) (c .loop-place .at) (c .loop-place .place) (c .loop-place .route) (c .loop-place .charge) (c .loop-place .length) (c .loop-place .inv .2) (c .loop-place-test .taken) (c .loop-place .inv .0) (c .index-labels-at .result) (c .index-labels-at .is)),
+    )
 
 pub returns : need.returns
 returns g c = record {
-  traced = tracing-done (net-of (g .R·TurnRule) (g .C·CostKind) (c .args .ground .now)) (label-in (g .C·CostKind) (c .args .labels .now)) (c .args .last) (c .args .route .now) (c .loop-place .at) (c .loop-place .place) (c .loop-place .route) (c .loop-place .charge) (c .loop-place .length) (c .loop-place .inv .2) (omega arith)
+  traced = tracing-done (net-of (g .R·TurnRule) (g .C·CostKind) (c .args .ground .now)) (label-in (g .C·CostKind) (c .args .labels .now)) (c .args .last) (c .args .route .now) (c .loop-place .at) (c .loop-place .place) (c .loop-place .route) (c .loop-place .charge) (c .loop-place .length) (c .loop-place .inv .2) (omega arith);
 }
