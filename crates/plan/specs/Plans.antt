@@ -5,6 +5,7 @@
 --   plan-of d         the plan of the drawing d
 --   spare-of d        the rows of d that are not drawn yet, as they lie
 --   rows-of d         how many rows d has, drawn and spare
+--   lender-of d       which list of rows d was made over: the name by which a caller follows what it lent
 --   edge-at p e       the row of the edge e (a row of zeros where e is not drawn)
 --   degree p j        how many edges leave the junction j
 --   steps p e f       whether a step leads from the edge e to the edge f: both are drawn, f starts where e ends, and f does not end where e starts
@@ -19,6 +20,7 @@ use mathlib.Core.List.{List}
 use mathlib.Core.Path.{_≡_}
 use lib.Dec.{eqb, ltb}
 use lib.ListN.{length, getD, take, drop}
+use denote.Ref.{name}
 use Rattle.std.specs.declared.option.Option.{Option}
 use Rattle.std.specs.declared.option.Option.the-variants.{Some, None}
 use Rattle.std.specs.shelf.Lists.{countBy}
@@ -41,6 +43,9 @@ spare-of d = drop (d .count) (d .rows .now)
 
 abbrev pub rows-of : Drawing → ℕ
 rows-of d = length (d .rows .now)
+
+abbrev pub lender-of : Drawing → ℕ
+lender-of d = name (d .rows)
 
 abbrev pub no-row : EdgeRow
 no-row = record { start = 0; end = 0; length = 0; leaving = 0; arriving = 0 }

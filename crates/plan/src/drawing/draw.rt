@@ -4,7 +4,7 @@ ghost use mathlib.Core.List.{List};
 ghost use mathlib.Core.Path.{_≡_};
 ghost use lib.ListN.{drop, length as length-of};
 ghost use Rattle.std.specs.declared.option.Option.the-variants.{None};
-ghost use Rattle.plan.specs.Plans.{plan-of, rows-of, spare-of};
+ghost use Rattle.plan.specs.Plans.{lender-of, plan-of, rows-of, spare-of};
 ghost use Rattle.plan.specs.Studies.{answered, draw-fault, length-fault, neighbour-fault, next, put-last, room-fault, row-fault, row-of, spare-left, study-of};
 ghost use Rattle.plan.specs.declared.change.Change.the-variants.{Draw};
 use crate::drawing::Drawing;
@@ -34,6 +34,7 @@ impl Drawing<'_> {
         ensures value { λ r. ⌜ r ≡ answered (draw-fault (rows-of (now (self .entry))) (plan-of (now (self .entry)) .edges) start end length leaving arriving) (length-of (plan-of (now (self .entry)) .edges)) ⌝ }
         ensures after { λ _. ⌜ ((sheet : List ℕ) → study-of (now (self .exit)) sheet ≡ next (study-of (now (self .entry)) sheet) (Draw start end length leaving arriving)) ⌝ }
         ensures spare { λ r. ⌜ spare-of (now (self .exit)) ≡ spare-left r (spare-of (now (self .entry))) ⌝ }
+        ensures lender { λ _. ⌜ lender-of (now (self .exit)) ≡ lender-of (now (self .entry)) ⌝ }
     {
         self.check_room()?;
         let row = checked_row(start, end, length, leaving, arriving)?;
@@ -74,6 +75,7 @@ impl Drawing<'_> {
         ensures after { λ _. ⌜ plan-of (now (self .exit)) ≡ put-last (plan-of (now (self .entry))) row ⌝ }
         ensures rows { λ _. ⌜ rows-of (now (self .exit)) ≡ rows-of (now (self .entry)) ⌝ }
         ensures spare { λ _. ⌜ spare-of (now (self .exit)) ≡ drop 1 (spare-of (now (self .entry))) ⌝ }
+        ensures lender { λ _. ⌜ lender-of (now (self .exit)) ≡ lender-of (now (self .entry)) ⌝ }
     {
         let at = self.count;
         self.rows[at] = row;

@@ -4,7 +4,7 @@ ghost use mathlib.Core.List.{List};
 ghost use mathlib.Core.Path.{_≡_};
 ghost use lib.ListN.{length as length-of};
 ghost use Rattle.std.specs.declared.option.Option.the-variants.{None};
-ghost use Rattle.plan.specs.Plans.{plan-of, rows-of, spare-of};
+ghost use Rattle.plan.specs.Plans.{lender-of, plan-of, rows-of, spare-of};
 ghost use Rattle.plan.specs.Studies.{answered, drawn-fault, length-fault, measured, next, otherwise, study-of};
 ghost use Rattle.plan.specs.declared.change.Change.the-variants.{Measure};
 use crate::drawing::Drawing;
@@ -19,6 +19,7 @@ impl Drawing<'_> {
         ensures value { λ r. ⌜ r ≡ answered (otherwise (length-fault length) (drawn-fault (plan-of (now (self .entry)) .edges) edge)) tt ⌝ }
         ensures after { λ _. ⌜ ((sheet : List ℕ) → study-of (now (self .exit)) sheet ≡ next (study-of (now (self .entry)) sheet) (Measure edge length)) ⌝ }
         ensures spare { λ _. ⌜ spare-of (now (self .exit)) ≡ spare-of (now (self .entry)) ⌝ }
+        ensures lender { λ _. ⌜ lender-of (now (self .exit)) ≡ lender-of (now (self .entry)) ⌝ }
     {
         check_length(length)?;
         self.check_drawn(edge)?;
@@ -43,6 +44,7 @@ impl Drawing<'_> {
         ensures edges { λ _. ⌜ plan-of (now (self .exit)) .edges ≡ measured (plan-of (now (self .entry)) .edges) at length ⌝ }
         ensures rows { λ _. ⌜ rows-of (now (self .exit)) ≡ rows-of (now (self .entry)) ⌝ }
         ensures spare { λ _. ⌜ spare-of (now (self .exit)) ≡ spare-of (now (self .entry)) ⌝ }
+        ensures lender { λ _. ⌜ lender-of (now (self .exit)) ≡ lender-of (now (self .entry)) ⌝ }
     {
         self.rows[at].length = length;
     }

@@ -21,7 +21,7 @@ returns-in-Break-check-room c =
     let g : PlanFault = c .in-Break-check-room .field-0 .0 in
     let e = answered-err room tt g (sym (c .in-Break-check-room .ensures tt .value)) in
     let r = refused (c .from-residual .result) (otherwise room (otherwise row near)) (length (plan-of self .edges)) (spare-of self) g (p .1 ∙ ap Err (p .2)) (first-fault room (otherwise row near) g e) in
-    record { value = r .value; after = λ sheet. r .same (study-of self sheet) _; spare = r .left }
+    record { value = r .value; after = λ sheet. r .same (study-of self sheet) _; spare = r .left; lender = refl }
 
 pub returns-in-Break-row : need.returns-in-Break-row
 returns-in-Break-row c =
@@ -34,7 +34,7 @@ returns-in-Break-row c =
     let g : PlanFault = c .in-Break-row .field-0 .0 in
     let e = answered-err row (row-of (c .args .start) (c .args .end) (c .args .length) (c .args .leaving) (c .args .arriving)) g (sym (c .in-Break-row .ensures tt .value)) in
     let r = refused (c .from-residual-in-Break-row .result) (otherwise room (otherwise row near)) (length (plan-of self .edges)) (spare-of self) g (p .1 ∙ ap Err (p .2)) (second-fault room (otherwise row near) (Some g) a (first-fault row near g e)) in
-    record { value = r .value; after = λ sheet. r .same (study-of self sheet) _; spare = r .left }
+    record { value = r .value; after = λ sheet. r .same (study-of self sheet) _; spare = r .left; lender = refl }
 
 pub returns-in-Break-check-neighbours : need.returns-in-Break-check-neighbours
 returns-in-Break-check-neighbours c =
@@ -48,7 +48,7 @@ returns-in-Break-check-neighbours c =
     let g : PlanFault = c .in-Break-check-neighbours .field-0 .0 in
     let e = answered-err near tt g (sym (c .in-Break-check-neighbours .ensures tt .value)) in
     let r = refused (c .from-residual-in-Break-check-neighbours .result) (otherwise room (otherwise row near)) (length (plan-of self .edges)) (spare-of self) g (p .1 ∙ ap Err (p .2)) (second-fault room (otherwise row near) (Some g) a (second-fault row near (Some g) b e)) in
-    record { value = r .value; after = λ sheet. r .same (study-of self sheet) _; spare = r .left }
+    record { value = r .value; after = λ sheet. r .same (study-of self sheet) _; spare = r .left; lender = refl }
 
 pub returns : need.returns
 returns c =
@@ -64,4 +64,5 @@ returns c =
       value = ap Ok (c .put .ensures .value) ∙ ap (λ x. answered x (length (plan-of self .edges))) (sym f);
       after = λ sheet. study-is (c .put .last .self) (put-last (plan-of self) (row-of (c .args .start) (c .args .end) (c .args .length) (c .args .leaving) (c .args .arriving))) (rows-of self) sheet (c .put .ensures .after ∙ ap (put-last (plan-of self)) (sym (b .1))) (c .put .ensures .rows) ∙ moved (otherwise room (otherwise row near)) (study-of self sheet) _ f;
       spare = c .put .ensures .spare;
+      lender = c .put .ensures .lender;
     }

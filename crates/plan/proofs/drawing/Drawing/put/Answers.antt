@@ -48,5 +48,6 @@ returns c =
       value = sym (edges-count self);
       after = λ i. record { limits = plan-of self .limits; edges = take-more-set (self .rows .now) (self .count) (c .args .row) room i };
       rows = length-set (self .rows .now) (self .count) (c .args .row);
+      lender = refl;
       spare = drop-put (self .rows .now) (self .count) (c .args .row);
     }

@@ -45,5 +45,6 @@ returns c =
       limits = refl;
       edges = edges-measured (self .rows .now) (self .count) (c .args .at) (c .args .length) (self .within) drawn;
       rows = length-set (self .rows .now) (c .args .at) (with-length (getD (self .rows .now) (c .args .at) no-row) (c .args .length));
+      lender = refl;
       spare = drop-set-lt (self .count) (self .rows .now) (c .args .at) (with-length (getD (self .rows .now) (c .args .at) no-row) (c .args .length)) drawn;
     }
