@@ -19,7 +19,7 @@ use rules::TurnRule;
 
 // Labels every drawn edge for walks from the edge `first`: with the simplest walk to it, or as one to which no walk leads.
 pub fn explore<R: TurnRule, C: CostKind>(
-    ground: &Ground<'_, '_, R, C>,
+    ground: &Ground<'_, '_, '_, '_, '_, R, C>,
     first: u16,
     labels: &mut [Label<C>],
     queue: &mut [QueueSlot],
@@ -44,7 +44,7 @@ pub fn explore<R: TurnRule, C: CostKind>(
 }
 
 // The label of the first edge: the walk of that edge alone.
-fn opening<R, C: CostKind>(ground: &Ground<'_, '_, R, C>, first: u16) -> Label<C>
+fn opening<R, C: CostKind>(ground: &Ground<'_, '_, '_, '_, '_, R, C>, first: u16) -> Label<C>
     requires { ⌜ first < length (plan-of (now ground .drawing .now) .edges) ⌝ }
     ensures fine { λ r. ⌜ Fine C·CostKind (settings-of C·CostKind (now (ground .entry))) r ⌝ }
     ensures value { λ r. ⌜ Opens C·CostKind (now (ground .entry)) first r ⌝ }

@@ -24,11 +24,11 @@ use rules::TurnRule;
 ///
 /// Refusals: 8 where the first or the last edge is not drawn, the first before the last; 10 where the sheet, the labels, the queue or the route list is
 /// shorter than the edges drawn; both change nothing. 11 where no walk leads there: the labels are written and the route list is unchanged.
-pub fn ask<'a, R: TurnRule, C: CostKind>(
-    drawing: &'a Drawing<'_>,
-    sheet: &'a [u8],
-    rule: &'a R,
-    cost: &'a C,
+pub fn ask<R: TurnRule, C: CostKind>(
+    drawing: &Drawing<'_>,
+    sheet: &[u8],
+    rule: &R,
+    cost: &C,
     first: u32,
     last: u32,
     labels: &mut [Label<C>],
@@ -53,11 +53,11 @@ pub fn ask<'a, R: TurnRule, C: CostKind>(
 }
 
 // The checks, and then the search over the labels of the drawn edges.
-fn answer<'a, R: TurnRule, C: CostKind>(
-    drawing: &'a Drawing<'_>,
-    sheet: &'a [u8],
-    rule: &'a R,
-    cost: &'a C,
+fn answer<R: TurnRule, C: CostKind>(
+    drawing: &Drawing<'_>,
+    sheet: &[u8],
+    rule: &R,
+    cost: &C,
     first: u32,
     last: u32,
     labels: &mut [Label<C>],

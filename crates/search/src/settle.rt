@@ -12,7 +12,7 @@ use rules::TurnRule;
 
 // Takes the edge with the least label out of the queue, relaxes its steps, and answers the length of the queue then.
 pub fn settle<R: TurnRule, C: CostKind>(
-    ground: &Ground<'_, '_, R, C>,
+    ground: &Ground<'_, '_, '_, '_, '_, R, C>,
     labels: &mut [Label<C>],
     queue: &mut [QueueSlot],
     len: usize,
