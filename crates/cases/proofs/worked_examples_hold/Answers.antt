@@ -14,5 +14,5 @@ returns c = record {
   turning-at-four = refl;
   both-left = (refl, refl);
   told-apart = (refl, refl);
-  one-and-six = refl
+  one-and-six = refl;
 }
