@@ -12,7 +12,7 @@ use plan::close;
 use plan::open;
 
 // Makes a change. A refused one changes nothing.
-pub fn apply(drawing: &mut Drawing<'_>, sheet: &mut [u8], change: Change)
+pub(crate) fn apply(drawing: &mut Drawing<'_>, sheet: &mut [u8], change: Change)
     ensures lender { λ _. ⌜ lender-of (now (drawing .exit)) ≡ lender-of (now (drawing .entry)) ⌝ }
     ensures rows { λ _. ⌜ ((all : List EdgeRow) → Over all (now (drawing .entry)) → Over all (now (drawing .exit))) ⌝ }
     ensures after { λ _. ⌜ study-of (now (drawing .exit)) (now (sheet .exit)) ≡ next (study-of (now (drawing .entry)) (now (sheet .entry))) change ⌝ }
@@ -40,7 +40,7 @@ pub fn apply(drawing: &mut Drawing<'_>, sheet: &mut [u8], change: Change)
 }
 
 // Opens every edge: the sheet of a study at its making.
-pub fn clear(sheet: &mut [u8])
+pub(crate) fn clear(sheet: &mut [u8])
     ensures after { λ _. ⌜ now (sheet .exit) ≡ replicate (length (now (sheet .entry))) 0 ⌝ }
 {
     for byte in sheet.iter_mut() {

@@ -8,7 +8,7 @@ ghost use Rattle.plan.specs.Studies.{place};
 use crate::row::EdgeRow;
 
 // The place of the first edge from `start` to `end`, or the number of edges where there is none.
-pub fn place_of(edges: &[EdgeRow], start: u32, end: u32) -> usize
+pub(crate) fn place_of(edges: &[EdgeRow], start: u32, end: u32) -> usize
     ensures value { λ r. ⌜ r ≡ place start end (now (edges .entry)) ⌝ }
 {
     for (at, row) in edges.iter().enumerate() {
@@ -20,7 +20,7 @@ pub fn place_of(edges: &[EdgeRow], start: u32, end: u32) -> usize
 }
 
 // How many of the edges leave the junction.
-pub fn leaving_count(edges: &[EdgeRow], junction: u32) -> usize
+pub(crate) fn leaving_count(edges: &[EdgeRow], junction: u32) -> usize
     ensures value { λ r. ⌜ r ≡ countBy (leaves junction) (now (edges .entry)) ⌝ }
 {
     let mut count: usize = 0;

@@ -63,7 +63,7 @@ fn tell<R: TurnRule, C: CostKind>(
 }
 
 // Asks with the rule of the word.
-pub fn tell_by<C: CostKind>(
+pub(crate) fn tell_by<C: CostKind>(
     drawing: &Drawing<'_>,
     sheet: &[u8],
     rule: RuleWord,

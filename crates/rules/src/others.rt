@@ -9,7 +9,7 @@ use plan::Drawing;
 use turns::Class;
 
 // How many steps out of the edge `from` are in the class, leaving out any to the edge `to`.
-pub fn other_steps(drawing: &Drawing<'_>, from: u32, to: u32, class: Class) -> u32
+pub(crate) fn other_steps(drawing: &Drawing<'_>, from: u32, to: u32, class: Class) -> u32
     ensures value { λ r. ⌜ r ≡ below (other (plan-of (now (drawing .entry))) from class to) (length (plan-of (now (drawing .entry)) .edges)) ⌝ }
 {
     let mut count = 0;

@@ -5,7 +5,7 @@ use crate::label::NO_EDGE;
 use cost::CostKind;
 
 // Makes every label that of an edge to which no walk leads, with the settings of the cost.
-pub fn clear<C: CostKind>(labels: &mut [Label<C>], cost: &C)
+pub(crate) fn clear<C: CostKind>(labels: &mut [Label<C>], cost: &C)
     ensures blank { λ _. ⌜ Each (Blank C·CostKind (C·CostKind .settings (now (cost .entry)))) (now (labels .exit)) ⌝ }
 {
     let blank = Label {

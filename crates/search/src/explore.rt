@@ -18,7 +18,7 @@ use cost::CostKind;
 use rules::TurnRule;
 
 // Labels every drawn edge for walks from the edge `first`: with the simplest walk to it, or as one to which no walk leads.
-pub fn explore<R: TurnRule, C: CostKind>(
+pub(crate) fn explore<R: TurnRule, C: CostKind>(
     ground: &Ground<'_, '_, '_, '_, '_, R, C>,
     first: u16,
     labels: &mut [Label<C>],

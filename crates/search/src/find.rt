@@ -16,7 +16,7 @@ use cost::CostKind;
 use rules::TurnRule;
 
 // Labels all edges for walks from `first`, and writes the walk to `last` into the route list, or says that there is none.
-pub fn find<R: TurnRule, C: CostKind>(
+pub(crate) fn find<R: TurnRule, C: CostKind>(
     ground: &Ground<'_, '_, '_, '_, '_, R, C>,
     first: u16,
     last: u16,

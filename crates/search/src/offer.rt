@@ -13,7 +13,7 @@ use cost::CostKind;
 use rules::TurnRule;
 
 // The label of the edge `to` by a step from `from`, whose label is x; none where no step leads to it, where it is shut, or where the walk has 1,024 edges.
-pub fn offer<R: TurnRule, C: CostKind>(
+pub(crate) fn offer<R: TurnRule, C: CostKind>(
     ground: &Ground<'_, '_, '_, '_, '_, R, C>,
     x: Label<C>,
     from: u16,

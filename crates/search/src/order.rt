@@ -7,7 +7,7 @@ use cost::CostKind;
 use std::cmp::Ordering;
 
 // Whether x is cheaper than y, or as cheap with fewer edges.
-pub fn key_before<C: CostKind>(x: &Label<C>, y: &Label<C>) -> bool
+pub(crate) fn key_before<C: CostKind>(x: &Label<C>, y: &Label<C>) -> bool
     ensures cases { λ r. ⌜ When r (KeyLess (plain C·CostKind (now (x .entry))) (plain C·CostKind (now (y .entry)))) (KeyAtMost (plain C·CostKind (now (y .entry))) (plain C·CostKind (now (x .entry)))) ⌝ }
 {
     match x.cost.compare(&y.cost) {
@@ -18,7 +18,7 @@ pub fn key_before<C: CostKind>(x: &Label<C>, y: &Label<C>) -> bool
 }
 
 // Whether x comes before y: cheaper, or as cheap with fewer edges, or as cheap and as long with the lower previous edge.
-pub fn label_before<C: CostKind>(x: &Label<C>, y: &Label<C>) -> bool
+pub(crate) fn label_before<C: CostKind>(x: &Label<C>, y: &Label<C>) -> bool
     ensures cases { λ r. ⌜ When r (LabelLess (plain C·CostKind (now (x .entry))) (plain C·CostKind (now (y .entry)))) (AtMost (plain C·CostKind (now (y .entry))) (plain C·CostKind (now (x .entry)))) ⌝ }
 {
     match x.cost.compare(&y.cost) {

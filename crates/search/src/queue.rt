@@ -19,7 +19,7 @@ impl QueueSlot {
 }
 
 // The slot among the first `len` whose edge has the least cost and, of equal cost, the fewest edges.
-pub fn least<C: CostKind>(labels: &[Label<C>], queue: &[QueueSlot], len: usize) -> usize
+pub(crate) fn least<C: CostKind>(labels: &[Label<C>], queue: &[QueueSlot], len: usize) -> usize
     requires some { ⌜ 0 < len ⌝ }
     requires within { ⌜ len ≤ length (now queue) ⌝ }
     requires drawn { ⌜ ((k : ℕ) → k < len → edge-in (now queue) k < length (now labels)) ⌝ }
@@ -38,7 +38,7 @@ pub fn least<C: CostKind>(labels: &[Label<C>], queue: &[QueueSlot], len: usize) 
 }
 
 // Puts an edge into the queue behind the first `len` slots, and answers the queue's new length.
-pub fn put_in(queue: &mut [QueueSlot], len: usize, edge: u16) -> usize
+pub(crate) fn put_in(queue: &mut [QueueSlot], len: usize, edge: u16) -> usize
     requires { ⌜ len < length (now queue) ⌝ }
     ensures value { λ r. ⌜ r ≡ len + 1 ⌝ }
     ensures after { λ _. ⌜ now (queue .exit) ≡ put-in (now (queue .entry)) len edge ⌝ }
@@ -48,7 +48,7 @@ pub fn put_in(queue: &mut [QueueSlot], len: usize, edge: u16) -> usize
 }
 
 // Takes the edge in the slot `at` out of the first `len`, by moving the last of them to its place, and answers that edge.
-pub fn take_out(queue: &mut [QueueSlot], len: usize, at: usize) -> u16
+pub(crate) fn take_out(queue: &mut [QueueSlot], len: usize, at: usize) -> u16
     requires within { ⌜ len ≤ length (now queue) ⌝ }
     requires there { ⌜ at < len ⌝ }
     ensures value { λ r. ⌜ r ≡ edge-in (now (queue .entry)) at ⌝ }

@@ -16,7 +16,7 @@ use rules::TurnRule;
 
 // Relaxes the step from the edge `from`, whose label is x, to the edge `to`, and answers the length of the queue then: an edge that had no walk is labelled
 // and enters the queue, and an edge whose label is worse gets the better one.
-pub fn relax<R: TurnRule, C: CostKind>(
+pub(crate) fn relax<R: TurnRule, C: CostKind>(
     ground: &Ground<'_, '_, '_, '_, '_, R, C>,
     labels: &mut [Label<C>],
     queue: &mut [QueueSlot],
@@ -47,7 +47,7 @@ pub fn relax<R: TurnRule, C: CostKind>(
 }
 
 // Relaxes every step out of the edge `from`, whose label is x, and answers the length of the queue then.
-pub fn relax_all<R: TurnRule, C: CostKind>(
+pub(crate) fn relax_all<R: TurnRule, C: CostKind>(
     ground: &Ground<'_, '_, '_, '_, '_, R, C>,
     labels: &mut [Label<C>],
     queue: &mut [QueueSlot],

@@ -11,7 +11,7 @@ use cost::CostKind;
 use rules::TurnRule;
 
 // Takes the edge with the least label out of the queue, relaxes its steps, and answers the length of the queue then.
-pub fn settle<R: TurnRule, C: CostKind>(
+pub(crate) fn settle<R: TurnRule, C: CostKind>(
     ground: &Ground<'_, '_, '_, '_, '_, R, C>,
     labels: &mut [Label<C>],
     queue: &mut [QueueSlot],

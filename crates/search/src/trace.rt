@@ -15,7 +15,7 @@ use rules::TurnRule;
 
 // Writes the walk to the edge `last` to the beginning of the route list, by the previous edges of the labels, and answers the sums of its charges and of its
 // lengths.
-pub fn trace<R: TurnRule, C: CostKind>(
+pub(crate) fn trace<R: TurnRule, C: CostKind>(
     ground: &Ground<'_, '_, '_, '_, '_, R, C>,
     labels: &[Label<C>],
     last: u16,

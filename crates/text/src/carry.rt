@@ -16,7 +16,7 @@ use plan::open;
 use turns::Sectors;
 
 // The limits that a line begins a drawing with; else the fault of that line, where no drawing is begun.
-pub fn begin(line: Line) -> Result<Sectors, TextFault>
+pub(crate) fn begin(line: Line) -> Result<Sectors, TextFault>
     ensures value { λ r. ⌜ begun-with r ≡ begins line ⌝ }
 {
     match line {
@@ -26,7 +26,7 @@ pub fn begin(line: Line) -> Result<Sectors, TextFault>
 }
 
 // Makes the call that a line asks for, and answers its reply; else the fault of that line.
-pub fn carry_out(
+pub(crate) fn carry_out(
     drawing: &mut Drawing<'_>,
     sheet: &mut [u8],
     line: Line,

@@ -21,14 +21,14 @@ pub struct Cursor<'a> {
 
 impl<'a> Cursor<'a> {
     /// All fields of a line.
-    pub fn new(line: &'a [u8]) -> Cursor<'a>
+    pub(crate) fn new(line: &'a [u8]) -> Cursor<'a>
         ensures value { λ r. ⌜ fields-left r ≡ split (now (line .entry)) ⌝ }
     {
         Cursor { rest: Some(line) }
     }
 
     /// The next field.
-    pub fn next(&mut self) -> Option<&'a [u8]>
+    pub(crate) fn next(&mut self) -> Option<&'a [u8]>
         ensures cases { λ r. ⌜ BySome r (fields-left (now (self .entry)) ≡ []) (λ f. fields-left (now (self .entry)) ≡ now f ∷ fields-left (now (self .exit))) ⌝ }
     {
         let text = self.rest?;
@@ -38,7 +38,7 @@ impl<'a> Cursor<'a> {
     }
 
     /// The next field as a number, or its place.
-    pub fn number(&mut self, place: u32) -> Result<u32, u32>
+    pub(crate) fn number(&mut self, place: u32) -> Result<u32, u32>
         ensures cases { λ r. ⌜ ByOk r (λ n. Small n × (fields-left (now (self .entry)) ≡ decimal n ∷ fields-left (now (self .exit)))) (λ k. (k ≡ place) × Unlike Number (fields-left (now (self .entry)))) ⌝ }
     {
         let Some(field) = self.next() else {
@@ -52,7 +52,7 @@ impl<'a> Cursor<'a> {
 
     /// All fields that are left as numbers, of which there have to be `N`; else the place of the first wrong one, where
     /// the first of them has the place `first`.
-    pub fn numbers<const N: usize>(&mut self, first: u32) -> Result<[u32; N], u32>
+    pub(crate) fn numbers<const N: usize>(&mut self, first: u32) -> Result<[u32; N], u32>
         requires { ⌜ first + N < 2 ^ 32 ⌝ }
         ensures cases { λ r. ⌜ ByOk r (λ ns. Numbers N (fields-left (now (self .entry))) ns) (λ k. MissesFrom first (replicate N Number) (fields-left (now (self .entry))) k) ⌝ }
     {

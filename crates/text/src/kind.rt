@@ -15,7 +15,7 @@ pub enum Kind {
 }
 
 /// The kind of line that begins with a word.
-pub fn kind_named(word: &[u8]) -> Option<Kind>
+pub(crate) fn kind_named(word: &[u8]) -> Option<Kind>
     ensures cases { λ r. ⌜ BySome r ((k : Word) → now (word .entry) ≡ word-of k → ⊥) (λ k. now (word .entry) ≡ word-of k) ⌝ }
 {
     match word {

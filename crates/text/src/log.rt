@@ -13,7 +13,7 @@ pub const TAB: u8 = 9;
 pub const NEWLINE: u8 = 10;
 
 /// What stands before the first `mark`, and what stands behind it if there is one.
-pub fn cut(text: &[u8], mark: u8) -> (&[u8], Option<&[u8]>)
+pub(crate) fn cut(text: &[u8], mark: u8) -> (&[u8], Option<&[u8]>)
     ensures cases { λ r. ⌜ BySome (r .1) (Alone mark (now (text .entry)) (now (r .0))) (λ after. Leads mark (now (text .entry)) (now (r .0)) (now after)) ⌝ }
 {
     for (i, b) in text.iter().enumerate() {

@@ -6,7 +6,7 @@ ghost use Rattle.text.specs.Numbers.{Number, Spelt};
 const MOST_DIGITS: usize = 6;
 
 /// The number that a field spells: one to six digits, with no zero in front of another digit.
-pub fn number(field: &[u8]) -> Option<u32>
+pub(crate) fn number(field: &[u8]) -> Option<u32>
     ensures cases { λ r. ⌜ BySome r (Number (now (field .entry)) → ⊥) (λ n. Spelt (now (field .entry)) n) ⌝ }
 {
     if field.is_empty() || field.len() > MOST_DIGITS {

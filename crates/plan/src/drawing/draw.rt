@@ -117,7 +117,7 @@ fn checked_row(
 }
 
 // Whether a length can be drawn or measured: 1 to 100,000.
-pub fn check_length(length: u32) -> Result<(), PlanFault>
+pub(crate) fn check_length(length: u32) -> Result<(), PlanFault>
     ensures value { λ r. ⌜ r ≡ answered (length-fault length) tt ⌝ }
 {
     if length < 1 || length > 100_000 {

@@ -11,7 +11,7 @@ use crate::log::next_line;
 
 impl<'a> Lines<'a> {
     /// All lines of a log, which has at most 65,000 bytes.
-    pub fn new(log: &'a [u8]) -> Lines<'a>
+    pub(crate) fn new(log: &'a [u8]) -> Lines<'a>
         requires { ⌜ length (now log) ≤ 65000 ⌝ }
         ensures left { λ r. ⌜ left-of r ≡ lines-of (now (log .entry)) ⌝ }
         ensures taken { λ r. ⌜ taken-of r ≡ 0 ⌝ }
@@ -23,7 +23,7 @@ impl<'a> Lines<'a> {
     }
 
     /// The next line, without its newline, and its number, counted from 1.
-    pub fn next(&mut self) -> Option<(&'a [u8], u32)>
+    pub(crate) fn next(&mut self) -> Option<(&'a [u8], u32)>
         ensures cases { λ r. ⌜ BySome r (left-of (now (self .entry)) ≡ []) (λ p. (left-of (now (self .entry)) ≡ now (p .0) ∷ left-of (now (self .exit))) × (p .1 ≡ taken-of (now (self .entry)) + 1) × (taken-of (now (self .exit)) ≡ p .1)) ⌝ }
     {
         let (line, rest) = next_line(self.rest)?;
