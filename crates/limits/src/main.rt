@@ -17,7 +17,7 @@ const FULL: Room = Room {
     sheet: 1024,
 };
 
-// Plays a log over rows and a sheet that hold something already, and prints its verdict.
+// Plays a log over empty rows and a sheet on which every edge is shut, and prints its verdict.
 fn check(
     rt: &LibcRuntime,
     room: Room,
