@@ -4,7 +4,7 @@ mod distance;
 mod fault;
 mod kind;
 mod ranked;
-mod reading;
+pub mod reading;
 mod tally;
 mod weighted;
 

@@ -1,8 +1,9 @@
 // One call of a history, made with the real functions. What it answers is let go.
-ghost use Rattle.std.specs.Prelude.{◌≡◌, List};
-ghost use Rattle.plan.specs.Plans.{Over, lender_of};
+ghost use Rattle.std.specs.Prelude.{◌≡◌, List, length, replicate};
+ghost use Rattle.plan.specs.Plans.{lender_of};
 ghost use Rattle.plan.specs.Studies.{next, study_of};
 ghost use Rattle.plan.specs.declared.row.EdgeRow.{EdgeRow};
+ghost use Rattle.history.specs.Replays.{Over};
 
 use plan::{Change, Drawing, close, open};
 
@@ -31,5 +32,14 @@ pub(crate) fn apply(drawing: &mut Drawing<'_>, sheet: &mut [u8], change: Change)
         Change::Open { edge } => {
             let _ = open(drawing, sheet, edge);
         }
+    }
+}
+
+// Opens every edge: the sheet of a study at its making.
+pub(crate) fn clear(sheet: &mut [u8])
+    ensures after { sheet.new ≡ replicate (length sheet.old) 0 }
+{
+    for byte in sheet.iter_mut() {
+        *byte = 0;
     }
 }

@@ -1,6 +1,4 @@
 pub mod Drawn
 pub mod Faults
 pub mod Measures
-pub mod Overs
 pub mod Puts
-mod Zeros

@@ -5,7 +5,6 @@
 --   plan_of d         the plan of the drawing d
 --   spare_of d        the rows of d that are not drawn yet, as they lie
 --   rows_of d         how many rows d has, drawn and spare
---   Over rows d       the drawing d lies over these rows: behind its edges they are as they were brought
 --   lender_of d       which list of rows d was made over: the name by which a caller follows what it lent
 --   edge_at p e       the row of the edge e (a row of zeros where e is not drawn)
 --   degree p j        how many edges leave the junction j
@@ -35,9 +34,6 @@ spare_of d = drop d.count d.rows.now
 
 abbrev pub rows_of : Drawing → ℕ
 rows_of d = length d.rows.now
-
-abbrev pub Over : List EdgeRow → Drawing → Type 0
-Over rows d = spare_of d ≡ drop (length (plan_of d).edges) rows
 
 abbrev pub lender_of : Drawing → ℕ
 lender_of d = d.rows.ghost_name

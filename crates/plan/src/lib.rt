@@ -9,4 +9,4 @@ mod step;
 pub use change::Change;
 pub use drawing::Drawing;
 pub use row::EdgeRow;
-pub use sheet::{close, open, open_all};
+pub use sheet::{close, open};

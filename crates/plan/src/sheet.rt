@@ -1,5 +1,5 @@
 // The closing sheet: byte n is edge n, 0 is open, any other value is shut.
-ghost use Rattle.std.specs.Prelude.{◌≡◌, length, replicate};
+ghost use Rattle.std.specs.Prelude.{◌≡◌};
 ghost use Rattle.plan.specs.Plans.{plan_of};
 ghost use Rattle.plan.specs.Studies.{answered, next, refusal_of, sheet_fault, study_of};
 ghost use Rattle.plan.specs.declared.change.Change.TheVariants.{Close, Open};
@@ -41,15 +41,6 @@ pub fn open(drawing: &Drawing<'_>, sheet: &mut [u8], edge: u32) -> Result<(), Pl
     }
     sheet[at] = 0;
     Ok(())
-}
-
-/// Opens every edge: writes 0 at each byte. So a study begins.
-pub fn open_all(sheet: &mut [u8])
-    ensures after { sheet.new ≡ replicate (length sheet.old) 0 }
-{
-    for byte in sheet.iter_mut() {
-        *byte = 0;
-    }
 }
 
 // Whether the sheet has a byte for every drawn edge.

@@ -15,7 +15,7 @@ use Rattle.plan.specs.Plans.{Plan}
 use Rattle.rules.specs.Ambiguity.{ambiguity_charge}
 use Rattle.rules.specs.Slots.{slots_charge}
 use Rattle.rules.specs.Turns.{turns_charge}
-use Rattle.question.specs.Questions.{Question}
+use Rattle.search.specs.Questions.{Question}
 use Rattle.routing.specs.declared.choice.KindWord.{KindWord}
 use Rattle.routing.specs.declared.choice.KindWord.TheVariants.{Distance, Ranked, Weighted, Tally}
 use Rattle.routing.specs.declared.choice.RuleWord.{RuleWord}

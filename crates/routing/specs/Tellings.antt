@@ -9,9 +9,9 @@
 use Rattle.std.specs.Prelude.{◌≡◌, ℕ, List, ◌++◌, length, drop, Some, None, Ok, Err, Option, Result}
 use Rattle.plan.specs.Studies.{Study}
 use Rattle.walks.specs.Networks.{Leads, Network, Simplest, walk_charge, walk_length}
-use Rattle.question.specs.Questions.{Question, ground_at, question_fault}
-use Rattle.question.specs.declared.fault.QuestionFault.{QuestionFault}
-use Rattle.question.specs.declared.fault.QuestionFault.TheVariants.{NoWalk}
+use Rattle.search.specs.Questions.{Question, ground_at, question_fault}
+use Rattle.search.specs.declared.fault.QuestionFault.{QuestionFault}
+use Rattle.search.specs.declared.fault.QuestionFault.TheVariants.{NoWalk}
 use Rattle.routing.specs.declared.telling.Found.{Found}
 
 pub record HasSums (g : Network) (w : List ℕ) (r : Found) : Type 0 where

@@ -1,7 +1,6 @@
 // The questions that a log can ask: a turn rule and a kind of cost by their words, over lists for every kind.
 mod choice;
 mod telling;
-mod worded;
 mod workspace;
 
 pub use choice::{KindWord, RuleWord};

@@ -2,5 +2,6 @@ pub mod Ambiguity
 pub mod Charges
 pub mod Slots
 pub mod Turns
-pub mod Bounds
 pub mod Counts
+pub mod AmbiguityRuleLemmas
+pub mod SlotsRuleLemmas

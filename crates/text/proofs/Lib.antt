@@ -1,5 +1,7 @@
 pub mod Carrying
 pub mod Once
+pub mod Parting
 pub mod Playing
-pub mod Printing
-pub mod Saying
+pub mod Reading
+pub mod Shaping
+pub mod Spelling

@@ -6,9 +6,8 @@ use Rattle.std.specs.Prelude.{ℕ}
 use Rattle.refusal.specs.declared.Layer.TheVariants.{Text}
 use Rattle.refusal.specs.declared.Refusal.{Refusal}
 use Rattle.turns.specs.Faults.{plan_refusal}
-use Rattle.question.specs.Faults.{question_refusal}
 use Rattle.text.specs.declared.fault.TextFault.{TextFault}
-use Rattle.text.specs.declared.fault.TextFault.TheVariants.{Field, Long, Plan, Question}
+use Rattle.text.specs.declared.fault.TextFault.TheVariants.{Field, Long, Plan}
 
 abbrev pub by_text : ℕ → ℕ → Refusal
 by_text number detail = record { number = number; detail = detail; layer = Text }
@@ -17,4 +16,3 @@ abbrev pub text_refusal : TextFault → Refusal
 text_refusal (Field place) = by_text 12 place
 text_refusal Long = by_text 13 0
 text_refusal (Plan fault) = plan_refusal fault
-text_refusal (Question fault) = question_refusal fault

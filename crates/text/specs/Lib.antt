@@ -1,4 +1,9 @@
 pub mod Faults
+pub mod Kinds
+pub mod Lines
+pub mod Numbers
+pub mod Pieces
 pub mod Plays
 pub mod Replies
 pub mod Runs
+pub mod Shapes

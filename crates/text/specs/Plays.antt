@@ -9,20 +9,16 @@
 --   moved s l                 the study after that call: a refused one changes nothing
 --   called st l               what the line l answers in the state st, with no line number
 --   numbered r i              the reply to the line number i of the answer r
---   answer_to st l i          the reply to the line l, which is no `route` line and has the number i, in the state st
---   Routes s q i said         what is said of the question q in the study s: its refusal, or the route with its sums where there is a walk, and 11 where not
---   Says n st l i said        what is said of the line l with the number i in the state st: the text of its reply; a question is asked with as many labels,
---                             queue slots and route places as there are rows, n
---   carried n size st l       the state after the line l, where a study is brought n rows and a sheet of `size` bytes
+--   answer_to st l i          the reply to the line l, which has the number i, in the state st
+--   carried rows size st l    the state after the line l, where a study has so many rows and so long a sheet
 --   Obeyed                    a line is the text of a sound line: its reply is that line's, and so is the state after it
 --   Rejected                  a line is no sound line: refusal 12 with its lowest wrong field is its reply, and the state stays
---   Answered                  the one or the other: from the state st, `said` answers the line `bytes` with the number i, and st' is the state after it
---   Played                    from the state st, the lines, of which the first has the number i, are answered by `out`, each with
+--   Answered                  the one or the other: from the state st, the line `bytes` with the number i has the reply, and st' is the state after it
+--   Played                    from the state st, the lines, of which the first has the number i, have the replies `out`, each with
 --                             its newline, and st' is the state after them
 --   Holds st rows₀ rows sheet size   what the lists hold in the state st, where the rows were rows₀ and the sheet has `size` bytes:
 --                             all zeros and the rows as they were, or the study's sheet and its edges, with the rows behind them as they were
 --   Plays                     playing all the lines over no study shows `out`, and leaves `rows` and `sheet`
---   Shows                     playing all the lines over no study shows the text
 --   OnlyText                  playing all the lines over no study shows no other text
 --   PlaysSome                 playing some first lines, and no more, leaves `rows` and `sheet`
 --   too_long                  what is shown of a log that is too long: refusal 13 with the line number 0
@@ -33,19 +29,13 @@ use Rattle.turns.specs.declared.fault.PlanFault.{PlanFault}
 use Rattle.plan.specs.Studies.{Study, answered, begun, next, refusal_of}
 use Rattle.plan.specs.declared.change.Change.TheVariants as change
 use Rattle.plan.specs.declared.row.EdgeRow.{EdgeRow}
-use Rattle.walks.specs.Networks.{Leads, Simplest, walk_charge, walk_length}
-use Rattle.question.specs.Faults.{question_refusal}
-use Rattle.question.specs.Questions.{Question, ground_at, question_fault}
-use Rattle.question.specs.declared.fault.QuestionFault.{QuestionFault}
-use Rattle.question.specs.declared.fault.QuestionFault.TheVariants.{NoWalk}
-use Rattle.routing.specs.Choices.{question_of}
 use Rattle.text.specs.Faults.{by_text, text_refusal}
-use Rattle.reading.specs.Lines.{Misread, Sound, written}
-use Rattle.text.specs.Replies.{reply_text, route_text}
+use Rattle.text.specs.Lines.{Misread, Sound, written}
+use Rattle.text.specs.Replies.{reply_text}
 use Rattle.text.specs.declared.fault.TextFault.{TextFault}
 use Rattle.text.specs.declared.fault.TextFault.TheVariants.{Field, Plan}
-use Rattle.reading.specs.declared.line.Line.{Line}
-use Rattle.reading.specs.declared.line.Line.TheVariants as line
+use Rattle.text.specs.declared.line.Line.{Line}
+use Rattle.text.specs.declared.line.Line.TheVariants as line
 use Rattle.text.specs.declared.reply.Reply.{Reply}
 use Rattle.text.specs.declared.reply.Reply.TheVariants.{Done, Edge, Refused}
 
@@ -64,7 +54,6 @@ begins (line.Edge start end size leaving arriving) = Err (Field 1)
 begins (line.Close edge) = Err (Field 1)
 begins (line.Open edge) = Err (Field 1)
 begins (line.Measure edge size) = Err (Field 1)
-begins (line.Route rule kind first last) = Err (Field 1)
 
 abbrev pub asked : Study → Line → Result Reply TextFault
 asked s (line.Sectors a b h) = Err (Field 1)
@@ -72,7 +61,6 @@ asked s (line.Edge start end size leaving arriving) =
     told Edge (answered (refusal_of s (change.Draw start end size leaving arriving)) (length s.edges))
 asked s (line.Close edge) = told (λ x. Done) (answered (refusal_of s (change.Close edge)) (tt {0}))
 asked s (line.Open edge) = told (λ x. Done) (answered (refusal_of s (change.Open edge)) (tt {0}))
-asked s (line.Route rule kind first last) = Err (Field 1)
 asked s (line.Measure edge size) = told (λ x. Done) (answered (refusal_of s (change.Measure edge size)) (tt {0}))
 
 abbrev pub moved : Study → Line → Study
@@ -80,12 +68,11 @@ moved s (line.Sectors a b h) = s
 moved s (line.Edge start end size leaving arriving) = next s (change.Draw start end size leaving arriving)
 moved s (line.Close edge) = next s (change.Close edge)
 moved s (line.Open edge) = next s (change.Open edge)
-moved s (line.Route rule kind first last) = s
 moved s (line.Measure edge size) = next s (change.Measure edge size)
 
 abbrev pub begun_by : ℕ → ℕ → Result Limits TextFault → Option Study
-begun_by n size (Ok l) = Some (begun l n size)
-begun_by n size (Err f) = None
+begun_by rows size (Ok l) = Some (begun l rows size)
+begun_by rows size (Err f) = None
 
 abbrev pub done_by : Result Limits TextFault → Result Reply TextFault
 done_by (Ok l) = Ok Done
@@ -96,8 +83,8 @@ called None l = done_by (begins l)
 called (Some s) l = asked s l
 
 abbrev pub carried : ℕ → ℕ → Option Study → Line → Option Study
-carried n size None l = begun_by n size (begins l)
-carried n size (Some s) l = Some (moved s l)
+carried rows size None l = begun_by rows size (begins l)
+carried rows size (Some s) l = Some (moved s l)
 
 abbrev pub numbered : Result Reply TextFault → ℕ → Reply
 numbered (Ok r) i = r
@@ -106,61 +93,41 @@ numbered (Err f) i = Refused (text_refusal f) i
 abbrev pub answer_to : Option Study → Line → ℕ → Reply
 answer_to st l i = numbered (called st l) i
 
-abbrev pub RoutesBy : Option QuestionFault → Study → Question → ℕ → List ℕ → Type 0
-RoutesBy (Some f) s q i said = said ≡ reply_text (Refused (question_refusal f) i)
-RoutesBy None s q i said =
-    ((w : List ℕ) × Simplest (ground_at s q) q.first q.last w × (said ≡ route_text (walk_charge (ground_at s q) w) (walk_length (ground_at s q) w) w))
-    ⊎ (((w : List ℕ) → Leads (ground_at s q) q.first q.last w → ⊥) × (said ≡ reply_text (Refused (question_refusal (NoWalk q.last)) i)))
-
-abbrev pub Routes : Study → Question → ℕ → List ℕ → Type 0
-Routes s q i said = RoutesBy (question_fault s q) s q i said
-
-abbrev pub Says : ℕ → Option Study → Line → ℕ → List ℕ → Type 0
-Says n None l i said = said ≡ reply_text (answer_to None l i)
-Says n (Some s) (line.Route rule kind first last) i said = Routes s (question_of rule kind first last n n n) i said
-Says n (Some s) (line.Sectors l m h) i said = said ≡ reply_text (answer_to (Some s) (line.Sectors l m h) i)
-Says n (Some s) (line.Edge start end size leaving arriving) i said = said ≡ reply_text (answer_to (Some s) (line.Edge start end size leaving arriving) i)
-Says n (Some s) (line.Close edge) i said = said ≡ reply_text (answer_to (Some s) (line.Close edge) i)
-Says n (Some s) (line.Open edge) i said = said ≡ reply_text (answer_to (Some s) (line.Open edge) i)
-Says n (Some s) (line.Measure edge size) i said = said ≡ reply_text (answer_to (Some s) (line.Measure edge size) i)
-
-pub record Obeyed (n : ℕ) (size : ℕ) (st : Option Study) (i : ℕ) (bytes said : List ℕ) (st' : Option Study) : Type 0 where
+pub record Obeyed (rows size : ℕ) (st : Option Study) (i : ℕ) (bytes : List ℕ) (reply : Reply) (st' : Option Study) : Type 0 where
   pub line : Line
   pub text : bytes ≡ written line
   pub sound : Sound (started st) line
-  pub answer : Says n st line i said
-  pub after : st' ≡ carried n size st line
+  pub answer : reply ≡ answer_to st line i
+  pub after : st' ≡ carried rows size st line
 
-pub record Rejected (st : Option Study) (i : ℕ) (bytes said : List ℕ) (st' : Option Study) : Type 0 where
+pub record Rejected (st : Option Study) (i : ℕ) (bytes : List ℕ) (reply : Reply) (st' : Option Study) : Type 0 where
   pub field : ℕ
   pub wrong : Misread (started st) bytes field
-  pub answer : said ≡ reply_text (Refused (by_text 12 field) i)
+  pub answer : reply ≡ Refused (by_text 12 field) i
   pub same : st' ≡ st
 
-abbrev pub Answered : ℕ → ℕ → Option Study → ℕ → List ℕ → List ℕ → Option Study → Type 0
-Answered n size st i bytes said st' = Obeyed n size st i bytes said st' ⊎ Rejected st i bytes said st'
+abbrev pub Answered : ℕ → ℕ → Option Study → ℕ → List ℕ → Reply → Option Study → Type 0
+Answered rows size st i bytes reply st' = Obeyed rows size st i bytes reply st' ⊎ Rejected st i bytes reply st'
 
 abbrev pub Played : ℕ → ℕ → Option Study → ℕ → List (List ℕ) → List ℕ → Option Study → Type 0
-Played n size st i [] out st' = (out ≡ []) × (st' ≡ st)
-Played n size st i (bytes ∷ lines) out st' =
-    (said : List ℕ) × (mid : Option Study) × (rest : List ℕ) × Answered n size st i bytes said mid
-    × (out ≡ said ++ (10 ∷ rest)) × Played n size mid (i + 1) lines rest st'
+Played rows size st i [] out st' = (out ≡ []) × (st' ≡ st)
+Played rows size st i (bytes ∷ lines) out st' =
+    (reply : Reply) × (mid : Option Study) × (rest : List ℕ) × Answered rows size st i bytes reply mid
+    × (out ≡ reply_text reply ++ (10 ∷ rest)) × Played rows size mid (i + 1) lines rest st'
 
 abbrev pub Holds : Option Study → List EdgeRow → List EdgeRow → List ℕ → ℕ → Type 0
 Holds None rows₀ rows sheet size = (rows ≡ rows₀) × (sheet ≡ replicate size 0)
 Holds (Some s) rows₀ rows sheet size = (rows ≡ s.edges ++ drop (length s.edges) rows₀) × (sheet ≡ s.sheet)
 
-abbrev pub Plays : List EdgeRow → ℕ → ℕ → List (List ℕ) → List ℕ → List EdgeRow → List ℕ → Type 0
-Plays rows₀ n size lines out rows sheet = (st : Option Study) × Played n size None 1 lines out st × Holds st rows₀ rows sheet size
-
-abbrev pub Shows : ℕ → ℕ → List (List ℕ) → List ℕ → Type 0
-Shows n size lines text = (st : Option Study) × Played n size None 1 lines text st
+abbrev pub Plays : List EdgeRow → ℕ → List (List ℕ) → List ℕ → List EdgeRow → List ℕ → Type 0
+Plays rows₀ size lines out rows sheet =
+    (st : Option Study) × Played (length rows₀) size None 1 lines out st × Holds st rows₀ rows sheet size
 
 abbrev pub OnlyText : ℕ → ℕ → List (List ℕ) → List ℕ → Type 0
-OnlyText n size lines text = (out : List ℕ) (st : Option Study) → Played n size None 1 lines out st → out ≡ text
+OnlyText rows size lines text = (out : List ℕ) (st : Option Study) → Played rows size None 1 lines out st → out ≡ text
 
-abbrev pub PlaysSome : List EdgeRow → ℕ → ℕ → List (List ℕ) → List EdgeRow → List ℕ → Type 0
-PlaysSome rows₀ n size lines rows sheet = (k : ℕ) × (out : List ℕ) × Plays rows₀ n size (take k lines) out rows sheet
+abbrev pub PlaysSome : List EdgeRow → ℕ → List (List ℕ) → List EdgeRow → List ℕ → Type 0
+PlaysSome rows₀ size lines rows sheet = (k : ℕ) × (out : List ℕ) × Plays rows₀ size (take k lines) out rows sheet
 
 abbrev pub too_long : List ℕ
 too_long = reply_text (Refused (by_text 13 0) 0) ++ (10 ∷ [])

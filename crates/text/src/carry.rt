@@ -1,15 +1,15 @@
 // The calls that lines ask for.
 ghost use Rattle.std.specs.Prelude.{◌≡◌, List};
-ghost use Rattle.plan.specs.Plans.{Over, lender_of};
+ghost use Rattle.plan.specs.Plans.{lender_of};
 ghost use Rattle.plan.specs.Studies.{study_of};
 ghost use Rattle.plan.specs.declared.row.EdgeRow.{EdgeRow as Row};
 ghost use Rattle.text.specs.Plays.{asked, begins, moved};
-ghost use Rattle.text.specs.Runs.{begun_with};
+ghost use Rattle.text.specs.Runs.{Over, begun_with};
 
 use crate::fault::TextFault;
+use crate::line::Line;
 use crate::reply::Reply;
 use plan::{Drawing, close, open};
-use reading::Line;
 use turns::Sectors;
 
 // The limits that a line begins a drawing with; else the fault of that line, where no drawing is begun.
@@ -34,7 +34,7 @@ pub(crate) fn carry_out(
     ensures lender { lender_of drawing.new ≡ lender_of drawing.old }
 {
     match line {
-        Line::Sectors { .. } | Line::Route { .. } => Err(TextFault::Field(1)),
+        Line::Sectors { .. } => Err(TextFault::Field(1)),
         Line::Edge {
             start,
             end,

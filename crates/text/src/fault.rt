@@ -3,7 +3,6 @@ ghost use Rattle.std.specs.Prelude.{◌≡◌};
 ghost use Rattle.text.specs.Faults.{text_refusal};
 ghost use Rattle.text.specs.declared.fault.TextFault.TheVariants.{Plan};
 
-use question::QuestionFault;
 use refusal::{Layer, Refusal};
 use turns::PlanFault;
 
@@ -16,8 +15,6 @@ pub enum TextFault {
     Long,
     /// The refusal of a call on the drawing or its sheet, as it was given.
     Plan(PlanFault),
-    /// The refusal of a question, as it was given.
-    Question(QuestionFault),
 }
 
 impl TextFault {
@@ -29,7 +26,6 @@ impl TextFault {
             TextFault::Field(place) => (12, place),
             TextFault::Long => (13, 0),
             TextFault::Plan(fault) => return fault.refusal(),
-            TextFault::Question(fault) => return fault.refusal(),
         };
         let layer = Layer::Text;
         Refusal {

@@ -1,14 +1,19 @@
-// Logs played: the call of each line, the reply to it, and the text of all replies.
+// Logs as text: their lines, what a line asks for, and the reply to it.
 mod carry;
+mod cursor;
 mod fault;
+mod kind;
+mod line;
 mod lines;
-mod lists;
+mod log;
+mod number;
 mod player;
+mod read;
 mod reply;
-mod whole;
-mod writing;
 
 pub use fault::TextFault;
-pub use player::{MOST_BYTES, play};
+pub use line::Line;
+pub use log::next_line;
+pub use player::play;
+pub use read::read_line;
 pub use reply::Reply;
-pub use whole::replies;

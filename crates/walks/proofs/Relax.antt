@@ -209,11 +209,11 @@ module _
     put_settled d (inr i) =
         ap₂ (λ (b : Bool) (o : Option Label). cond b false (is_some o)) (flag_other Q k true d i) (label_other L k new d i)
 
-    put_edges_lem :
+    put_edges :
         (d : ℕ) (y : Label) → R d ≡ true → ((d ≡ k) × (new ≡ y)) ⊎ ((d ≡ k → ⊥) × (L d ≡ Some y)) → y.edges ≤ n + 1
-    put_edges_lem d y q (inl (i, v)) =
+    put_edges d y q (inl (i, v)) =
         omega (arith, ap (λ z. z.edges) v, r.running.settled_edges e x r.labelled r.taken)
-    put_edges_lem d y q (inr (i, p)) = r.running.queued_edges d y p (sym (flag_other Q k true d i) ∙ q)
+    put_edges d y q (inr (i, p)) = r.running.queued_edges d y p (sym (flag_other Q k true d i) ∙ q)
 
     put_running : Running g a M R n
     put_running =
@@ -228,7 +228,7 @@ module _
           counted =
               tally_same (settled M R) (settled L Q) g.edges (λ d _. put_settled d (cases_eq d k)) ∙ r.running.counted;
           settled_edges = λ d y p q. let h = put_back d y p q in r.running.settled_edges d y h.0 h.1;
-          queued_edges = λ d y p q. put_edges_lem d y q (put_cases d y p);
+          queued_edges = λ d y p q. put_edges d y q (put_cases d y p);
         }
 
     -- the step from e is relaxed by the new label, and the others still are

@@ -1,10 +1,10 @@
 // Taking the lines of a log.
 ghost use Rattle.std.specs.Prelude.{◌≡◌, ◌+◌, ◌≤◌, [], ◌∷◌, length, MatchOption};
-ghost use Rattle.reading.specs.Pieces.{lines_of};
+ghost use Rattle.text.specs.Pieces.{lines_of};
 ghost use Rattle.text.specs.Runs.{left_of, taken_of};
 
 use crate::lines::Lines;
-use reading::next_line;
+use crate::log::next_line;
 
 impl<'a> Lines<'a> {
     /// All lines of a log, which has at most 65,000 bytes.

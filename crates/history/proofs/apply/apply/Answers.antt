@@ -1,7 +1,7 @@
 use Rattle.std.proofs.Common.{[], length, sym, ap, ◌∙◌}
 use Rattle.plan.specs.Plans.{plan_of, rows_of}
 use Rattle.plan.specs.Studies.{draw_fault, drawn_fault, length_fault, next, otherwise, row_of, study_of}
-use Rattle.plan.proofs.Overs.{over_drawn, over_measured}
+use Rattle.history.proofs.Overs.{over_drawn, over_measured}
 use Rattle.history.proofs.apply.apply.Goals as goal
 
 pub returns-in-Draw : goal.returns-in-Draw

@@ -1,11 +1,11 @@
 use Rattle.std.proofs.Common.{◌≡◌, List, length, drop, sym, ap, ◌∙◌, subst, rules}
 use Rattle.turns.specs.Sectors.{limits_of}
-use Rattle.plan.specs.Plans.{Over, plan_of, spare_of}
+use Rattle.plan.specs.Plans.{plan_of, spare_of}
 use Rattle.plan.specs.Studies.{Study, begun, study_of}
 use Rattle.plan.specs.declared.drawing.Drawing.{Drawing}
 use Rattle.plan.specs.declared.row.EdgeRow.{EdgeRow}
-use Rattle.question.specs.Histories.{Call as Event, after_calls}
-use Rattle.history.specs.Replays.{calls_of}
+use Rattle.search.specs.Histories.{Call as Event, after_calls}
+use Rattle.history.specs.Replays.{Over, calls_of}
 use Rattle.history.proofs.Runs.{replayed, rows_back}
 use Rattle.history.proofs.playing.replay.Goals as goal
 
@@ -14,12 +14,12 @@ returns g c =
     let d : Drawing = c.make-calls.new.drawing in
     let h : List Event = calls_of g.R.TurnRule g.C.CostKind (length c.args.labels.now) (length c.args.queue.now) (length c.args.route.now) c.args.calls.now in
     let start : Study = begun (limits_of c.args.limits) (length c.args.rows.now) (length c.args.sheet.now) in
-    let begins : study_of c.new-drawing.result c.open-all.new.sheet ≡ start = λ i. record { limits = c.new-drawing.ensures.limits i; rows = c.new-drawing.ensures.rows i; edges = c.new-drawing.ensures.edges i; sheet = c.open-all.ensures.after i } in
+    let begins : study_of c.new-drawing.result c.clear.new.sheet ≡ start = λ i. record { limits = c.new-drawing.ensures.limits i; rows = c.new-drawing.ensures.rows i; edges = c.new-drawing.ensures.edges i; sheet = c.clear.ensures.after i } in
     let same : study_of d c.make-calls.new.sheet ≡ after_calls start h = c.make-calls.ensures.after ∙ ap (λ s. after_calls s h) begins in
     let whole : Over c.args.rows.now c.new-drawing.result = c.new-drawing.ensures.spare ∙ ap (λ edges. drop (length edges) c.args.rows.now) (sym c.new-drawing.ensures.edges) in
     record {
-      answers = replayed g.R.TurnRule g.C.CostKind c.args.rule.now (g.C.CostKind.settings c.args.cost.now) c.args.first c.args.last c.args.labels.now c.make-calls.new.labels c.ask-answer.new.labels c.args.route.now c.make-calls.new.route c.ask-answer.new.route (length c.args.queue.now) (length c.make-calls.new.queue) (study_of d c.make-calls.new.sheet) (study_of c.new-drawing.result c.open-all.new.sheet) start c.args.calls.now c.ask-answer.result
-          c.make-calls.auto.labels c.make-calls.auto.route c.make-calls.auto.queue begins same c.make-calls.ensures.run c.ask-answer.ensures.answers c.ask-answer.ensures.agrees;
+      answers = replayed g.R.TurnRule g.C.CostKind c.args.rule.now (g.C.CostKind.settings c.args.cost.now) c.args.first c.args.last c.args.labels.now c.make-calls.new.labels c.ask-answer.new.labels c.args.route.now c.make-calls.new.route c.ask-answer.new.route (length c.args.queue.now) (length c.make-calls.new.queue) (study_of d c.make-calls.new.sheet) (after_calls start h) c.ask-answer.result
+          c.make-calls.auto.labels c.make-calls.auto.route c.make-calls.auto.queue same c.ask-answer.ensures.answers c.ask-answer.ensures.agrees;
       rows = rows_back c.args.rows.now _ d (after_calls start h).edges (search rules) (c.make-calls.ensures.rows c.args.rows.now whole) (ap (λ (s : Study). s.edges) same);
       sheet = ap (λ (s : Study). s.sheet) same;
     }

@@ -1,49 +1,33 @@
-use Rattle.std.proofs.Common.{[], length, None, string_bytes, refl, arith}
+use Rattle.std.proofs.Common.{length, string_bytes, arith}
 use Rattle.std.proofs.lemmas.Option.{MatchOption-at_none, MatchOption-at_some}
 use Rattle.std.proofs.lemmas.Result.{MatchResult-from_err, IfOk-from_err}
 use Rattle.turns.specs.Sectors.{limits_of}
-use Rattle.reading.specs.Pieces.{lines_of}
-use Rattle.text.proofs.Playing.{plays_all, plays_none, plays_only, plays_some, stopped_new}
+use Rattle.text.specs.Pieces.{lines_of}
+use Rattle.text.proofs.Playing.{plays_all, plays_none, plays_only, plays_some}
 use Rattle.text.proofs.player.play.Goals as goal
 
 pub returns-in-None : goal.returns-in-None
 returns-in-None c =
-    let all = plays_none c.args.rows.now (length c.args.rows.now) (length c.args.sheet.now) (lines_of c.args.log.now) c.new-lines.result (string_bytes c.new-text.result) c.new-lines.ensures.left c.new-lines.ensures.taken c.new-text.ensures.bytes (string_bytes c.play-opening.new.text) c.open-all.new.sheet c.open-all.ensures.after (MatchOption-at_none _ _ c.in-None.is (c.in-ok-play-opening.ensures.cases (length c.args.rows.now) (length c.args.sheet.now))) in
+    let all = plays_none c.args.rows.now (length c.args.sheet.now) (lines_of c.args.log.now) c.new-lines.result (string_bytes c.new-text.result) c.new-lines.ensures.left c.new-lines.ensures.taken c.new-text.ensures.bytes (string_bytes c.play-opening.new.text) c.clear.new.sheet c.clear.ensures.after (MatchOption-at_none _ _ c.in-None.is (c.in-ok-play-opening.ensures.cases (length c.args.rows.now) (length c.args.sheet.now))) in
     record {
       played = λ short. all;
-      only = λ short. plays_only _ _ _ _ _ _ _ all;
+      only = λ short. plays_only _ _ _ _ _ _ all;
       long = λ long. absurd (omega arith);
     }
 
 pub returns-in-ok-play-drawn : goal.returns-in-ok-play-drawn
 returns-in-ok-play-drawn c =
-    let all = plays_all c.args.rows.now (length c.args.rows.now) (length c.args.sheet.now) (lines_of c.args.log.now) c.new-lines.result (string_bytes c.new-text.result) c.new-lines.ensures.left c.new-lines.ensures.taken c.new-text.ensures.bytes (limits_of c.in-Some.limits) c.open-all.new.sheet c.open-all.ensures.after c.play-opening.new.lines (string_bytes c.play-opening.new.text) c.play-drawn.new.rows c.play-drawn.new.sheet (MatchOption-at_some _ _ c.in-Some.limits c.in-Some.is (c.in-ok-play-opening.ensures.cases (length c.args.rows.now) (length c.args.sheet.now))) (string_bytes c.play-drawn.new.text) (c.in-ok-play-drawn.ensures.cases (length c.args.sheet.now)) in
+    let all = plays_all c.args.rows.now (length c.args.sheet.now) (lines_of c.args.log.now) c.new-lines.result (string_bytes c.new-text.result) c.new-lines.ensures.left c.new-lines.ensures.taken c.new-text.ensures.bytes (limits_of c.in-Some.limits) c.clear.new.sheet c.clear.ensures.after c.play-opening.new.lines (string_bytes c.play-opening.new.text) c.play-drawn.new.rows c.play-drawn.new.sheet (MatchOption-at_some _ _ c.in-Some.limits c.in-Some.is (c.in-ok-play-opening.ensures.cases (length c.args.rows.now) (length c.args.sheet.now))) (string_bytes c.play-drawn.new.text) (c.in-ok-play-drawn.ensures.cases (length c.args.sheet.now)) in
     record {
       played = λ short. all;
-      only = λ short. plays_only _ _ _ _ _ _ _ all;
+      only = λ short. plays_only _ _ _ _ _ _ all;
       long = λ long. absurd (omega arith);
     }
 
 pub returns-in-err-play-drawn : goal.returns-in-err-play-drawn
 returns-in-err-play-drawn c =
     record {
-      played = λ short. MatchResult-from_err c.from-residual-in-err-play-drawn.result _ _ c.from-residual-in-err-play-drawn.ensures.0 (λ e. plays_some c.args.rows.now (length c.args.rows.now) (length c.args.sheet.now) (lines_of c.args.log.now) c.new-lines.result (string_bytes c.new-text.result) c.new-lines.ensures.left c.new-lines.ensures.taken c.new-text.ensures.bytes (limits_of c.in-Some.limits) c.open-all.new.sheet c.open-all.ensures.after c.play-opening.new.lines (string_bytes c.play-opening.new.text) c.play-drawn.new.rows c.play-drawn.new.sheet (MatchOption-at_some _ _ c.in-Some.limits c.in-Some.is (c.in-ok-play-opening.ensures.cases (length c.args.rows.now) (length c.args.sheet.now))) (c.in-err-play-drawn.ensures.cases (length c.args.sheet.now)));
+      played = λ short. MatchResult-from_err c.from-residual-in-err-play-drawn.result _ _ c.from-residual-in-err-play-drawn.ensures.0 (λ e. plays_some c.args.rows.now (length c.args.sheet.now) (lines_of c.args.log.now) c.new-lines.result (string_bytes c.new-text.result) c.new-lines.ensures.left c.new-lines.ensures.taken c.new-text.ensures.bytes (limits_of c.in-Some.limits) c.clear.new.sheet c.clear.ensures.after c.play-opening.new.lines (string_bytes c.play-opening.new.text) c.play-drawn.new.rows c.play-drawn.new.sheet (MatchOption-at_some _ _ c.in-Some.limits c.in-Some.is (c.in-ok-play-opening.ensures.cases (length c.args.rows.now) (length c.args.sheet.now))) (c.in-err-play-drawn.ensures.cases (length c.args.sheet.now)));
       only = λ short. IfOk-from_err c.from-residual-in-err-play-drawn.result _ c.from-residual-in-err-play-drawn.ensures.0;
-      long = λ long. absurd (omega arith);
-    }
-
-pub returns-in-err-lists : goal.returns-in-err-lists
-returns-in-err-lists c =
-    record {
-      played = λ short. MatchResult-from_err c.from-residual-in-err-lists.result _ _ c.from-residual-in-err-lists.ensures.0 (λ e. plays_some c.args.rows.now (length c.args.rows.now) (length c.args.sheet.now) (lines_of c.args.log.now) c.new-lines.result (string_bytes c.new-text.result) c.new-lines.ensures.left c.new-lines.ensures.taken c.new-text.ensures.bytes (limits_of c.in-Some.limits) c.open-all.new.sheet c.open-all.ensures.after c.play-opening.new.lines (string_bytes c.play-opening.new.text) c.args.rows.now c.open-all.new.sheet (MatchOption-at_some _ _ c.in-Some.limits c.in-Some.is (c.in-ok-play-opening.ensures.cases (length c.args.rows.now) (length c.args.sheet.now))) (stopped_new c.args.rows.now (length c.args.rows.now) (length c.args.sheet.now) (limits_of c.in-Some.limits) c.open-all.new.sheet c.play-opening.new.lines (string_bytes c.play-opening.new.text)));
-      only = λ short. IfOk-from_err c.from-residual-in-err-lists.result _ c.from-residual-in-err-lists.ensures.0;
-      long = λ long. absurd (omega arith);
-    }
-
-pub returns-in-err-play-opening : goal.returns-in-err-play-opening
-returns-in-err-play-opening c =
-    record {
-      played = λ short. MatchResult-from_err c.from-residual-in-err-play-opening.result _ _ c.from-residual-in-err-play-opening.ensures.0 (λ e. (0, [], (None, (refl, refl), (refl, c.open-all.ensures.after))));
-      only = λ short. IfOk-from_err c.from-residual-in-err-play-opening.result _ c.from-residual-in-err-play-opening.ensures.0;
       long = λ long. absurd (omega arith);
     }

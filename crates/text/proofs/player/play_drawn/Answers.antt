@@ -1,6 +1,6 @@
-use Rattle.std.proofs.Common.{length, string_bytes, ◌∙◌, rules}
+use Rattle.std.proofs.Common.{length, string_bytes, rules}
 use Rattle.turns.specs.Sectors.{limits_of}
-use Rattle.text.proofs.Playing.{play_new, sized_of}
+use Rattle.text.proofs.Playing.{play_new}
 use Rattle.text.proofs.player.play_drawn.Goals as goal
 
 pub returns : goal.returns
@@ -8,5 +8,5 @@ returns c =
     let new = c.new-drawing.ensures in
     let rest = c.play-rest-played.ensures in
     record {
-      cases = λ size. play_new c.args.rows.now _ c.new-drawing.result c.play-rest-played.new.drawing (limits_of c.args.limits) c.args.sheet.now c.play-rest-played.new.sheet c.args.lines.now (string_bytes c.args.text.now) (string_bytes c.play-rest-played.new.text) c.play-rest-played.result (length c.args.rows.now) size new.limits new.edges new.rows new.spare (search rules) rest.over (rest.cases (length c.args.rows.now) size (sized_of (length c.args.rows.now) _ _ _ (c.deref-mut.ensures.len ∙ c.requires.distance) (c.deref-mut-2.ensures.len ∙ c.requires.ranked) (c.deref-mut-3.ensures.len ∙ c.requires.weighted) (c.deref-mut-4.ensures.len ∙ c.requires.tally) (c.deref-mut-5.ensures.len ∙ c.requires.queue) (c.deref-mut-6.ensures.len ∙ c.requires.route)));
+      cases = λ size. play_new c.args.rows.now _ c.new-drawing.result c.play-rest-played.new.drawing (limits_of c.args.limits) c.args.sheet.now c.play-rest-played.new.sheet c.args.lines.now (string_bytes c.args.text.now) (string_bytes c.play-rest-played.new.text) c.play-rest-played.result size new.limits new.edges new.rows new.spare (search rules) rest.over (rest.cases (length c.args.rows.now) size);
     }

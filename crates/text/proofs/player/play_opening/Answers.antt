@@ -2,7 +2,6 @@ use Rattle.std.proofs.Common.{Some, None, string_bytes, sym, subst}
 use Rattle.turns.specs.Sectors.{limits_of}
 use Rattle.plan.specs.Studies.{begun}
 use Rattle.text.specs.Plays.{Answered}
-use Rattle.text.specs.Replies.{reply_text}
 use Rattle.text.specs.Runs.{moment}
 use Rattle.text.specs.declared.reply.Reply.{Reply}
 use Rattle.text.specs.declared.reply.Reply.TheVariants.{Done}
@@ -13,12 +12,12 @@ pub returns-in-Ok : goal.returns-in-Ok
 returns-in-Ok c =
     let h = c.in-Some.ensures.cases in
     record {
-      cases = λ n size. went_more n size (moment None c.args.lines.now (string_bytes c.args.text.now)) (moment None c.loop-bytes.lines (string_bytes c.loop-bytes.text)) (moment (Some (begun (limits_of c.in-Ok.limits) n size)) c.next.new.self (string_bytes c.put.new.text)) c.in-Some.bytes.now c.in-Some.number (reply_text Done) (c.loop-bytes.invariant n size) h.0 h.1 h.2 c.in-ok-put.ensures.bytes (c.in-Ok.ensures.cases n size c.in-Some.number);
+      cases = λ rows size. went_more rows size (moment None c.args.lines.now (string_bytes c.args.text.now)) (moment None c.loop-bytes.lines (string_bytes c.loop-bytes.text)) (moment (Some (begun (limits_of c.in-Ok.limits) rows size)) c.next.new.self (string_bytes c.put.new.text)) c.in-Some.bytes.now c.in-Some.number Done (c.loop-bytes.invariant rows size) h.0 h.1 h.2 c.in-ok-put.ensures.bytes (c.in-Ok.ensures.cases rows size c.in-Some.number);
     }
 
 pub loop-bytes-preserved : goal.loop-bytes-preserved
-loop-bytes-preserved c n size =
+loop-bytes-preserved c rows size =
     let h = c.in-Some.ensures.cases in
-    let told : Answered n size None c.in-Some.number c.in-Some.bytes.now (reply_text c.numbered.result) None =
-    subst (λ (r : Reply). Answered n size None c.in-Some.number c.in-Some.bytes.now (reply_text r) None) (sym c.numbered.ensures.value) (c.in-Err.ensures.cases n size c.in-Some.number) in
-    went_more n size (moment None c.args.lines.now (string_bytes c.args.text.now)) (moment None c.loop-bytes.lines (string_bytes c.loop-bytes.text)) (moment None c.next.new.self (string_bytes c.put-in-Err.new.text)) c.in-Some.bytes.now c.in-Some.number (reply_text c.numbered.result) (c.loop-bytes.invariant n size) h.0 h.1 h.2 c.in-ok-put-2.ensures.bytes told
+    let told : Answered rows size None c.in-Some.number c.in-Some.bytes.now c.numbered.result None =
+    subst (λ (r : Reply). Answered rows size None c.in-Some.number c.in-Some.bytes.now r None) (sym c.numbered.ensures.value) (c.in-Err.ensures.cases rows size c.in-Some.number) in
+    went_more rows size (moment None c.args.lines.now (string_bytes c.args.text.now)) (moment None c.loop-bytes.lines (string_bytes c.loop-bytes.text)) (moment None c.next.new.self (string_bytes c.put-in-Err.new.text)) c.in-Some.bytes.now c.in-Some.number c.numbered.result (c.loop-bytes.invariant rows size) h.0 h.1 h.2 c.in-ok-put-2.ensures.bytes told

@@ -1,5 +1,0 @@
-use Rattle.reading.proofs.Parting.{lines_none}
-use Rattle.reading.proofs.log.next_line.Goals as goal
-
-pub returns-then-is-empty : goal.returns-then-is-empty
-returns-then-is-empty c = record { cases = lines_none c.args.rest.now c.if-is-empty.ensures }

@@ -1,0 +1,91 @@
+-- From certified labels to the outcome of a question.
+use Rattle.std.proofs.Common.{◌≡◌, ℕ, ◌+◌, ◌<◌, ◌≤◌, ◌⊎◌, List, ◌∷◌, ◌++◌, reverse, length, get_or, drop, Some, None, Ok, Err, sym, refl, ap, ◌∙◌, subst, inl, inr, add-one, arith}
+use Rattle.std.proofs.lemmas.List.{get_or_default, length-reverse}
+use Rattle.std.proofs.lemmas.Bool.{cases_eq}
+use Rattle.cost.specs.declared.kind.CostKind.{Ghosts as Kind}
+use Rattle.rules.specs.declared.rule.TurnRule.{Ghosts as Rule}
+use Rattle.plan.specs.Plans.{plan_of}
+use Rattle.walks.specs.Labels.{Certified, Label as Mark, Trail, label_of}
+use Rattle.walks.specs.Networks.{Even, Leads, Network, Simplest}
+use Rattle.walks.proofs.Certificate.{certificate, certified_trail}
+use Rattle.search.specs.Grounds.{net_of, settings_of}
+use Rattle.search.specs.Labels.{Each, Fine, Short, label_in, plain}
+use Rattle.search.specs.Questions.{AllLabelled, HasAnswer, HasLabel, Labelled, Outcome}
+use Rattle.search.specs.Traces.{Traceable, Traced}
+use Rattle.search.specs.declared.answer.Answer.{Answer}
+use Rattle.search.specs.declared.fault.QuestionFault.TheVariants.{NoWalk}
+use Rattle.search.specs.declared.ground.Ground.{Ground}
+use Rattle.search.specs.declared.label.Label.{Label}
+use Rattle.search.proofs.Marks.{label_read, meaning_none, meaning_some}
+use Rattle.search.proofs.Steps.{Measured}
+
+module _ {C : Type 0} (K : Kind C) (σ : K.Settings) (few : (c : C) → K.additions c ≤ 1024) (g : Network) (even : Even g) (a : ℕ) (ls : List (Label C)) (certified : Certified g a (label_in K ls)) (fine : Each (Fine K σ) ls) where
+  read_none : (e : ℕ) (x : Label C) → e < length ls → x ≡ get_or ls e x → x.edges ≡ 0 → label_in K ls e ≡ None
+  read_none e x l h z = label_read K ls e x l h ∙ meaning_none K x z
+
+  read_some : (e : ℕ) (x : Label C) → e < length ls → x ≡ get_or ls e x → (x.edges ≡ 0 → ⊥) → label_in K ls e ≡ Some (plain K x)
+  read_some e x l h z = label_read K ls e x l h ∙ meaning_some K x (omega (arith, z))
+
+  pub unreached : (e : ℕ) (x : Label C) → e < length ls → x ≡ get_or ls e x → x.edges ≡ 0 → (w : List ℕ) → Leads g a e w → ⊥
+  unreached e x l h z = (certificate g a (label_in K ls) even certified).unlabelled e (read_none e x l h z)
+
+  pub all_labelled : AllLabelled K σ g a ls
+  all_labelled e d l = go (cases_eq x.edges 0)
+    where
+      x : Label C
+      x = get_or ls e d
+
+      h : x ≡ get_or ls e x
+      h = get_or_default ls e d x l
+
+      go : (x.edges ≡ 0) ⊎ (x.edges ≡ 0 → ⊥) → Labelled K σ g a e x
+      go (inl z) = inr (unreached e x l h z, (fine e d l).blank z)
+      go (inr z) =
+          let r = (certificate g a (label_in K ls) even certified).labelled e (plain K x) (read_some e x l h z) in
+          let n = ap (λ (m : Mark). m.edges) r.2 in
+          inl (
+            r.0,
+            r.1,
+            record {
+              kept = (fine e d l).kept;
+              added = (fine e d l).added ∙ n;
+              row = ap (λ (m : Mark). m.row) r.2;
+              edges = n;
+              previous = ap (λ (m : Mark). m.previous) r.2;
+            },
+          )
+
+  module _ (z : ℕ) (x : Label C) (l : z < length ls) (h : x ≡ get_or ls z x) (some : x.edges ≡ 0 → ⊥) where
+    fine_here : Fine K σ x
+    fine_here = subst (Fine K σ) (sym h) (fine z x l)
+
+    trail : (t : List ℕ) × Trail g (label_in K ls) z t × Simplest g a z (reverse (z ∷ t)) × (plain K x ≡ label_of g (reverse (z ∷ t)))
+    trail = certified_trail g a (label_in K ls) even certified z (plain K x) (read_some z x l h some)
+
+    count : x.edges ≡ length trail.0 + 1
+    count = ap (λ (m : Mark). m.edges) trail.3 ∙ length-reverse (z ∷ trail.0) ∙ sym (add-one (length trail.0))
+
+    pub traceable : (n size : ℕ) → Short K ls n → n ≤ size → Traceable g (label_in K ls) z size
+    traceable n size short long =
+        let within = short z (plain K x) (read_some z x l h some) in
+        (trail.0, trail.1, omega (arith, count, within), omega (arith, count, fine_here.added, few x.cost))
+
+    pub outcome_found : (before after : List ℕ) (charge long : ℕ) → ((t : List ℕ) → Trail g (label_in K ls) z t → Traced g z t before after charge long)
+        → Outcome K σ g a z before after (Ok (record { cost = x.cost; edges = x.edges; charge = charge; length = long }))
+    outcome_found before after charge long traced =
+        let w : List ℕ = reverse (z ∷ trail.0) in
+        let r = traced trail.0 trail.1 in
+        let n : x.edges ≡ length w = ap (λ (m : Mark). m.edges) trail.3 in
+        let m : length w ≡ length trail.0 + 1 = sym n ∙ count in (
+          w,
+          trail.2,
+          record {
+            kept = fine_here.kept;
+            added = fine_here.added ∙ n;
+            row = ap (λ (k : Mark). k.row) trail.3;
+            edges = n;
+            charge = r.charges;
+            long = r.lengths;
+          },
+          r.route ∙ ap (λ k. w ++ drop k before) (sym m),
+        )

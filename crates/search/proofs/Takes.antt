@@ -1,0 +1,79 @@
+-- Taking the edge with the least label out of the queue.
+use Rattle.std.proofs.Common.{◌≡◌, ℕ, ◌+◌, ◌-◌, ◌<◌, ◌≤◌, Bool, true, false, List, length, get_or, Some, sym, refl, ap, ◌∙◌, subst, subst₂, arith}
+use Rattle.std.proofs.lemmas.List.{get_or_default}
+use Rattle.std.proofs.lemmas.Bool.{false≢true}
+use Rattle.cost.specs.declared.kind.CostKind.{Ghosts as Kind}
+use Rattle.rules.specs.declared.rule.TurnRule.{Ghosts as Rule}
+use Rattle.plan.specs.Plans.{plan_of}
+use Rattle.walks.specs.Labels.{Label as Mark, KeyAtMost}
+use Rattle.walks.specs.Loop.{Inv, Relaxing}
+use Rattle.walks.proofs.Loop.{flag_kept, inv_take, relaxing_same}
+use Rattle.search.specs.Grounds.{net_of}
+use Rattle.search.specs.Labels.{plain, label_in}
+use Rattle.search.specs.Queues.{Least, edge_in, in_queue, moved_up}
+use Rattle.search.specs.Stages.{Working}
+use Rattle.search.specs.declared.ground.Ground.{Ground}
+use Rattle.search.specs.declared.label.Label.{Label}
+use Rattle.search.specs.declared.queue.QueueSlot.{QueueSlot}
+use Rattle.search.proofs.Marks.{label_is, label_read, meaning_some}
+use Rattle.search.proofs.Slots.{filled_less, filled_within, slot_of, standing, taken_out}
+
+module _ {R C : Type 0} (T : Rule R) (K : Kind C) (g : Ground R C) (ls : List (Label C)) (slots : List QueueSlot) (m at : ℕ) (w : Working K g ls slots (m + 1)) (within : m + 1 ≤ length slots) (there : at < m + 1) where
+  pub working_taken : Working K g ls (moved_up slots m at) m
+  working_taken =
+      record {
+        size = w.size;
+        covered = w.covered;
+        fine = w.fine;
+        filled = filled_less slots m (length (plan_of g.drawing.now).edges) at w.filled there within;
+        waiting = λ e d h q. w.waiting e d h (flag_kept (in_queue slots (m + 1)) (edge_in slots at) false true e false≢ (taken_out slots m (length (plan_of g.drawing.now).edges) at w.filled there within e ∙ q));
+      }
+    where
+      false≢ : false ≡ true → ⊥
+      false≢ e = false≢true e
+
+  pub drawn_taken : edge_in slots at < length ls
+  drawn_taken = omega (arith, w.filled.drawn at there, w.size)
+
+  module _ (x : Label C) (reads : x ≡ get_or ls (edge_in slots at) x) (least : Least K ls slots (m + 1) at) where
+    filled_taken : 0 < x.edges
+    filled_taken = subst (λ l. 0 < l.edges) (sym reads) (w.waiting (edge_in slots at) x drawn_taken (standing slots (m + 1) at there within))
+
+    pub relaxing_taken : (a n : ℕ) → Inv (net_of T K g) a (label_in K ls) (in_queue slots (m + 1)) n → Relaxing (net_of T K g) a (label_in K ls) (in_queue (moved_up slots m at) m) (n + 1) (edge_in slots at) (plain K x) 0
+    relaxing_taken a n i =
+        relaxing_same (λ _. refl) (taken_out slots m (length (plan_of g.drawing.now).edges) at w.filled there within)
+        (inv_take i (edge_in slots at) (plain K x) (standing slots (m + 1) at there within) (label_read K ls (edge_in slots at) x drawn_taken reads ∙ meaning_some K x filled_taken) before)
+      where
+        before : (f : ℕ) (y : Mark) → in_queue slots (m + 1) f ≡ true → label_in K ls f ≡ Some y → KeyAtMost (plain K x) y
+        before f y q l =
+            let s = slot_of slots (m + 1) f within q in
+            let z : Label C = get_or ls (edge_in slots s.0) x in
+            let d : edge_in slots s.0 < length ls = omega (arith, w.filled.drawn s.0 s.1, w.size) in
+            let h = least s.0 x s.1 in
+            let e : y ≡ plain K z = label_is K ls (edge_in slots s.0) z y d (get_or_default ls (edge_in slots s.0) x z d) (subst (λ j. label_in K ls j ≡ Some y) (sym s.2) l) in
+            subst₂ KeyAtMost (ap (plain K) (sym reads)) (sym e) h
+
+-- the same, from the length of the queue before
+module _ {R C : Type 0} (T : Rule R) (K : Kind C) (g : Ground R C) (ls : List (Label C)) (slots : List QueueSlot) (len at : ℕ) (some : 0 < len) (w : Working K g ls slots len) (there : at < len) where
+  one_less : len ≡ len - 1 + 1
+  one_less = omega arith
+
+  w' : Working K g ls slots (len - 1 + 1)
+  w' = subst (Working K g ls slots) one_less w
+
+  within' : len - 1 + 1 ≤ length slots
+  within' = omega (arith, filled_within slots len (length (plan_of g.drawing.now).edges) w.filled)
+
+  there' : at < len - 1 + 1
+  there' = omega arith
+
+  pub working_left : Working K g ls (moved_up slots (len - 1) at) (len - 1)
+  working_left = working_taken T K g ls slots (len - 1) at w' within' there'
+
+  pub drawn_left : edge_in slots at < length ls
+  drawn_left = drawn_taken T K g ls slots (len - 1) at w' within' there'
+
+  pub relaxing_left : (x : Label C) → x ≡ get_or ls (edge_in slots at) x → Least K ls slots len at → (a n : ℕ) → Inv (net_of T K g) a (label_in K ls) (in_queue slots len) n → Relaxing (net_of T K g) a (label_in K ls) (in_queue (moved_up slots (len - 1) at) (len - 1)) (n + 1) (edge_in slots at) (plain K x) 0
+  relaxing_left x reads least a n i =
+      relaxing_taken T K g ls slots (len - 1) at w' within' there' x reads (subst (λ m. Least K ls slots m at) one_less least) a n
+      (subst (λ m. Inv (net_of T K g) a (label_in K ls) (in_queue slots m) n) one_less i)

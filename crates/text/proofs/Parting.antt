@@ -1,0 +1,116 @@
+-- Bytes that a mark parts.
+use Rattle.std.proofs.Common.{◌≡◌, ℕ, zero, suc, ◌+◌, ◌-◌, ◌<◌, ◌≤◌, true, false, eqb, ◌⊎◌, List, [], ◌∷◌, ◌++◌, length, get_or, take, drop, sym, refl, ap, ◌∙◌, inl, inr, arith}
+use Rattle.std.specs.List.{AllByRecursion as All}
+use Rattle.std.proofs.lemmas.List.{get_or-take, length-append, length-take, take-append-drop, take_rest, drop_more}
+use Rattle.std.proofs.lemmas.Bool.{cases_Bool, ne_eqb, eq-eqb, eqb-false, eqb-true}
+use Rattle.text.specs.Pieces.{Alone, Fields, Lacks, Leads, grown, joined, lines_of, pieces, split}
+
+module _ (m : ℕ) (xs : List ℕ) (i : ℕ) where
+  -- what stands before the first mark has none
+  pub front_lacks : ((k : ℕ) → k < i → get_or xs k 0 ≡ m → ⊥) → Lacks m (take (i - 0) xs)
+  front_lacks before k h e =
+      let short : k < i = omega (arith, length-take (i - 0) xs) in
+      let inner : k < i - 0 = omega arith in
+      before k short (sym (get_or-take (i - 0) xs k 0 inner) ∙ e)
+
+  -- the mark at i parts the bytes before it from those behind it
+  pub front_and_rest : i < length xs → get_or xs i 0 ≡ m → xs ≡ take (i - 0) xs ++ (m ∷ take (length xs - (i + 1)) (drop (i + 1) xs))
+  front_and_rest h e =
+      let zero : i - 0 ≡ i = omega arith in
+      rw (zero, take_rest xs (i + 1), ← e, ← drop_more xs i 0 h) (sym (take-append-drop i xs))
+
+module _ (m : ℕ) where
+  lacks_first : (x : ℕ) (xs : List ℕ) → Lacks m (x ∷ xs) → eqb x m ≡ false
+  lacks_first x xs h = ne_eqb x m (h 0 (omega arith))
+
+  lacks_rest : (x : ℕ) (xs : List ℕ) → Lacks m (x ∷ xs) → Lacks m xs
+  lacks_rest x xs h k below = h (suc k) (omega arith)
+
+  -- a piece with a mark behind it comes first
+  pub pieces_first : (last : List (List ℕ)) (xs rest : List ℕ) → Lacks m xs → pieces m last (xs ++ (m ∷ rest)) ≡ xs ∷ pieces m last rest
+  pieces_first last [] rest h = rw (eq-eqb m m refl)
+  pieces_first last (x ∷ xs) rest h = rw (lacks_first x xs h, pieces_first last xs rest (lacks_rest x xs h))
+
+  -- without a mark a line's bytes are its one field
+  pub pieces_one : (xs : List ℕ) → Lacks m xs → pieces m ([] ∷ []) xs ≡ xs ∷ []
+  pieces_one [] h = refl
+  pieces_one (x ∷ xs) h = rw (lacks_first x xs h, pieces_one xs (lacks_rest x xs h))
+
+  -- without a mark the bytes that are left of a log, if any, are its last line
+  pub pieces_last : (xs : List ℕ) → Lacks m xs → (length xs ≡ 0 → ⊥) → pieces m [] xs ≡ xs ∷ []
+  pieces_last [] h some = absurd (some refl)
+  pieces_last (x ∷ []) h some = rw (lacks_first x [] h)
+  pieces_last (x ∷ y ∷ ys) h some =
+      rw (lacks_first x (y ∷ ys) h, pieces_last (y ∷ ys) (lacks_rest x (y ∷ ys) h) (λ e. omega arith))
+
+module _ (m : ℕ) (xs : List ℕ) (i : ℕ) (before : (k : ℕ) → k < i → get_or xs k 0 ≡ m → ⊥) where
+  pub cut_leads : i < length xs → get_or xs i 0 ≡ m → Leads m xs (take (i - 0) xs) (take (length xs - (i + 1)) (drop (i + 1) xs))
+  cut_leads h e =
+      let whole = front_and_rest m xs i h e in
+      let after = take (length xs - (i + 1)) (drop (i + 1) xs) in (
+        λ last. ap (pieces m last) whole ∙ pieces_first m last (take (i - 0) xs) after (front_lacks m xs i before),
+        omega (arith, ap length whole, length-append (take (i - 0) xs) (m ∷ after)),
+      )
+
+  pub cut_alone : length xs ≤ i → Alone m xs xs
+  cut_alone all =
+      let clean : Lacks m xs = λ k h. before k (omega arith) in
+      (pieces_one m xs clean, λ some. pieces_last m xs clean (λ e. omega arith))
+
+-- nothing has no lines
+pub lines_none : (rest : List ℕ) → true ≡ eqb (length rest) 0 → (length rest ≡ 0) × (lines_of rest ≡ [])
+lines_none [] e = (refl, refl)
+lines_none (b ∷ rest) e = absurd (omega (arith, eqb-true (length (b ∷ rest)) 0 (sym e)))
+
+-- a line's bytes are its fields, joined
+joined_mark : (ps : List (List ℕ)) → 0 < length ps → joined ([] ∷ ps) ≡ 9 ∷ joined ps
+joined_mark [] h = absurd (omega arith)
+joined_mark (p ∷ ps) h = refl
+
+joined_grown : (b : ℕ) (ps : List (List ℕ)) → joined (grown b ps) ≡ b ∷ joined ps
+joined_grown b [] = refl
+joined_grown b (p ∷ []) = refl
+joined_grown b (p ∷ q ∷ ps) = refl
+
+pub lacks_more : (m b : ℕ) (p : List ℕ) → eqb b m ≡ false → Lacks m p → Lacks m (b ∷ p)
+lacks_more m b p e h zero below is = eqb-false b m e is
+lacks_more m b p e h (suc k) below is = h k (omega arith) is
+
+lacks_grown : (m b : ℕ) (ps : List (List ℕ)) → eqb b m ≡ false → All (Lacks m) ps → All (Lacks m) (grown b ps)
+lacks_grown m b [] e h = (lacks_more m b [] e (λ k below. absurd (omega arith)), tt)
+lacks_grown m b (p ∷ ps) e h = (lacks_more m b p e h.0, h.1)
+
+grown_some : (b : ℕ) (ps : List (List ℕ)) → 0 < length (grown b ps)
+grown_some b [] = omega arith
+grown_some b (p ∷ ps) = omega arith
+
+pub split_fields : (bytes : List ℕ) → Fields bytes (split bytes)
+split_fields [] = record { some = omega arith; clean = (λ k below. absurd (omega arith), tt); whole = refl }
+split_fields (b ∷ bytes) = go (cases_Bool (eqb b 9)) (split_fields bytes)
+  where
+    go : (eqb b 9 ≡ true) ⊎ (eqb b 9 ≡ false) → Fields bytes (split bytes) → Fields (b ∷ bytes) (split (b ∷ bytes))
+    go (inl e) h =
+        rw e (record {
+          some = omega arith;
+          clean = (λ k below. absurd (omega arith), h.clean);
+          whole = ap (λ x. x ∷ bytes) (eqb-true b 9 e) ∙ (ap (λ x. 9 ∷ x) h.whole ∙ sym (joined_mark (split bytes) h.some));
+        })
+    go (inr e) h =
+        rw e (record {
+          some = grown_some b (split bytes);
+          clean = lacks_grown 9 b (split bytes) e h.clean;
+          whole = ap (λ x. b ∷ x) h.whole ∙ sym (joined_grown b (split bytes));
+        })
+
+-- a log has no more lines than bytes
+grown_few : (b : ℕ) (ps : List (List ℕ)) → length (grown b ps) ≤ length ps + 1
+grown_few b [] = omega arith
+grown_few b (p ∷ ps) = omega arith
+
+pub lines_few : (bytes : List ℕ) → length (lines_of bytes) ≤ length bytes
+lines_few [] = omega arith
+lines_few (b ∷ bytes) = go (cases_Bool (eqb b 10)) (lines_few bytes)
+  where
+    go : (eqb b 10 ≡ true) ⊎ (eqb b 10 ≡ false) → length (lines_of bytes) ≤ length bytes → length (lines_of (b ∷ bytes)) ≤ length (b ∷ bytes)
+    go (inl e) h = rw e (omega arith)
+    go (inr e) h = rw e (omega (arith, grown_few b (lines_of bytes)))

@@ -1,0 +1,46 @@
+use Rattle.std.proofs.Common.{length, get_or, sym, ◌∙◌, inl, inr, arith, below_more}
+use Rattle.std.proofs.lemmas.Bool.{eqb-true, eqb-false}
+use Rattle.std.specs.Int.{IsInRange}
+use Rattle.text.proofs.Spelling.{number_some, number_short, number_first, number_digits, front_small, front_more, spelt_value}
+use Rattle.text.proofs.number.number.Goals as goal
+
+pub returns-then-is-empty : goal.returns-then-is-empty
+returns-then-is-empty c =
+    let f = c.args.field.now in
+    record {
+      cases = λ n.
+          elim c.then-is-empty.either [
+            | inl e ↦ omega (arith, number_some f n, eqb-true (length f) 0 (sym c.is-empty.ensures ∙ e))
+            | inr e ↦ omega (arith, number_short f n)
+          ];
+    }
+
+pub returns-then-field-gt1 : goal.returns-then-field-gt1
+returns-then-field-gt1 c = record { cases = λ n. omega (arith, number_first c.args.field.now n c.if-field-eq48.true) }
+
+pub returns-then-digit-lt48 : goal.returns-then-digit-lt48
+returns-then-digit-lt48 c =
+    record { cases = λ n. omega (arith, number_digits c.args.field.now n c.loop-digit.digit-index c.loop-digit-test.true) }
+
+pub overflow-mul-value : goal.overflow-mul-value
+overflow-mul-value c =
+    omega (arith, c.loop-digit.invariant.1, front_small c.args.field.now c.loop-digit.digit-index c.loop-digit.invariant.0 (omega arith) (omega arith))
+
+pub overflow-add-value : goal.overflow-add-value
+overflow-add-value c =
+    omega (arith, c.loop-digit.invariant.1, front_small c.args.field.now c.loop-digit.digit-index c.loop-digit.invariant.0 (omega arith) (omega arith))
+
+pub loop-digit-preserved : goal.loop-digit-preserved
+loop-digit-preserved c =
+    let f = c.args.field.now in
+    let i = c.loop-digit.digit-index in
+    let here : IsInRange 48 57 (get_or f i 0) = omega arith in
+    let step = front_more f i c.loop-digit.invariant.0 c.loop-digit-test.true here in
+    (below_more _ _ c.loop-digit.invariant.0 here, omega (arith, step, c.loop-digit.invariant.1))
+
+pub returns : goal.returns
+returns c =
+    let f = c.args.field.now in
+    record {
+      cases = spelt_value f c.loop-digit.digit-index c.loop-digit.value c.loop-digit.invariant.0 c.loop-digit-test.false c.loop-digit.invariant.1 (omega (arith, eqb-false (length f) 0 (sym c.if-is-empty.ensures))) c.if-field-gt-MOST-DIGITS.false (λ e. omega arith);
+    }

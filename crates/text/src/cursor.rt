@@ -1,0 +1,64 @@
+// A walk over the fields of a line.
+ghost use Rattle.std.specs.Prelude.{◌≡◌, ◌+◌, ◌^◌, ◌<◌, [], ◌∷◌, replicate, decimal, MatchOption, MatchResult};
+ghost use Rattle.text.specs.Numbers.{Number, Numbers, Small};
+ghost use Rattle.text.specs.Pieces.{split};
+ghost use Rattle.text.specs.Shapes.{MissesFrom, Unlike, fields_left};
+
+use super::log::{TAB, cut};
+use super::number::number;
+
+/// The fields of a line that are not read yet.
+#[derive(Drop)]
+pub struct Cursor<'a> {
+    rest: Option<&'a [u8]>,
+}
+
+impl<'a> Cursor<'a> {
+    /// All fields of a line.
+    pub(crate) fn new(line: &'a [u8]) -> Cursor<'a>
+        ensures value { fields_left result ≡ split line.now }
+    {
+        Cursor { rest: Some(line) }
+    }
+
+    /// The next field.
+    pub(crate) fn next(&mut self) -> Option<&'a [u8]>
+        ensures cases { MatchOption result (fields_left self.old ≡ []) (λ f. fields_left self.old ≡ f.now ∷ fields_left self.new) }
+    {
+        let text = self.rest?;
+        let (field, rest) = cut(text, TAB);
+        self.rest = rest;
+        Some(field)
+    }
+
+    /// The next field as a number, or its place.
+    pub(crate) fn number(&mut self, place: u32) -> Result<u32, u32>
+        ensures cases { MatchResult result (λ n. Small n × (fields_left self.old ≡ decimal n ∷ fields_left self.new)) (λ k. (k ≡ place) × Unlike Number (fields_left self.old)) }
+    {
+        let Some(field) = self.next() else {
+            return Err(place);
+        };
+        match number(field) {
+            Some(n) => Ok(n),
+            None => Err(place),
+        }
+    }
+
+    /// All fields that are left as numbers, of which there have to be `N`; else the place of the first wrong one, where
+    /// the first of them has the place `first`.
+    pub(crate) fn numbers<const N: usize>(&mut self, first: u32) -> Result<[u32; N], u32>
+        requires { first + N < 2 ^ 32 }
+        ensures cases { MatchResult result (λ ns. Numbers N (fields_left self.old) ns) (λ k. MissesFrom first (replicate N Number) (fields_left self.old) k) }
+    {
+        let mut found = [0; N];
+        let mut place = first;
+        for i in 0..N {
+            found[i] = self.number(place)?;
+            place += 1;
+        }
+        match self.next() {
+            None => Ok(found),
+            Some(_) => Err(place),
+        }
+    }
+}
