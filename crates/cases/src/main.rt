@@ -1,4 +1,6 @@
 // The worked cases: those that are proved, as a theorem, and the others, tried and printed with what they should be and what came.
+#![tactic(auto)]
+
 ghost use Rattle.cases.specs.Worked.{Worked};
 
 use cost::Weighted;

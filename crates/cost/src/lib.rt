@@ -1,4 +1,6 @@
 // Kinds of cost: what is added up along a walk, and how two walks compare by it.
+#![tactic(auto)]
+
 mod charge;
 mod distance;
 mod fault;

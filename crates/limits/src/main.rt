@@ -1,4 +1,6 @@
 // Plays logs at the edges of every limit, and prints of each the replies that should come, and those that came: how many, and the last.
+#![tactic(auto)]
+
 use plan::EdgeRow;
 use std::alloc::{AllocError, Global};
 use std::io;

@@ -1,4 +1,6 @@
 // A drawing of walkable edges over rows that the caller brings, and the closing sheet beside it.
+#![tactic(auto)]
+
 mod change;
 mod drawing;
 mod junction;

@@ -1,4 +1,6 @@
 // What every refusal carries: its number, one detail and the layer that refused.
+#![tactic(auto)]
+
 ghost use Rattle.std.specs.Prelude.{◌≡◌, Some};
 ghost use Rattle.refusal.specs.Words.{layer_word};
 

@@ -1,4 +1,6 @@
 // The questions that a log can ask: a turn rule and a kind of cost by their words, over lists for every kind.
+#![tactic(auto)]
+
 mod choice;
 mod telling;
 mod workspace;

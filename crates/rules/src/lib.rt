@@ -1,4 +1,6 @@
 // Turn rules: what a step from one edge to the next is charged for how hard it is to explain.
+#![tactic(auto)]
+
 mod ambiguity;
 mod others;
 mod rule;

@@ -1,4 +1,6 @@
 // The question: the simplest walk between two edges of a drawing, for any turn rule and any kind of cost.
+#![tactic(auto)]
+
 mod answer;
 mod clear;
 mod explore;

@@ -1,4 +1,6 @@
 // Plays the log on standard input, and prints its replies.
+#![tactic(auto)]
+
 use plan::EdgeRow;
 use std::io;
 use std::io::Read;

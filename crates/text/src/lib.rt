@@ -1,4 +1,6 @@
 // Logs as text: their lines, what a line asks for, and the reply to it.
+#![tactic(auto)]
+
 mod carry;
 mod cursor;
 mod fault;

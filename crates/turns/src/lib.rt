@@ -1,4 +1,6 @@
 // Sector limits, bearings, turns and their classes; what the layer `plan` refuses; the class for the drawing editor in C.
+#![tactic(auto)]
+
 mod class;
 mod export;
 mod fault;

@@ -1,4 +1,6 @@
 // The theory of walks: a function for each theorem, whose contract is that theorem. Their answers, 0, mean nothing.
+#![tactic(auto)]
+
 ghost use Rattle.walks.specs.Laws.{RowLaws, SimplestUnique, SimplestBegins, AlikeSimplest, PushLaws, CertifiedRight, CertifiedTrails};
 
 /// Rows are ordered, and adding keeps the order.
