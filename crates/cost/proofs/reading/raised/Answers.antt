@@ -2,8 +2,8 @@ use Rattle.std.proofs.Common.{refl, arith, rules}
 use Rattle.cost.specs.AddLaws.{held_bound, held_more}
 use Rattle.cost.proofs.reading.raised.Goals as goal
 
-pub overflow-add-result : goal.overflow-add-result
-overflow-add-result c = omega (arith, held_bound c.args.most c.args.additions c.args.stored)
+pub overflow_add-result : goal.overflow_add-result
+overflow_add-result c = omega (arith, held_bound c.args.most c.args.additions c.args.stored)
 
 pub returns : goal.returns
 returns c =

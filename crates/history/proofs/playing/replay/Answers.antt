@@ -11,15 +11,15 @@ use Rattle.history.proofs.playing.replay.Goals as goal
 
 pub returns : goal.returns
 returns g c =
-    let d : Drawing = c.make-calls.new.drawing in
+    let d : Drawing = c.make_calls.new.drawing in
     let h : List Event = calls_of g.R.TurnRule g.C.CostKind (length c.args.labels.now) (length c.args.queue.now) (length c.args.route.now) c.args.calls.now in
     let start : Study = begun (limits_of c.args.limits) (length c.args.rows.now) (length c.args.sheet.now) in
     let begins : study_of c.new-drawing.result c.clear.new.sheet ≡ start = λ i. record { limits = c.new-drawing.ensures.limits i; rows = c.new-drawing.ensures.rows i; edges = c.new-drawing.ensures.edges i; sheet = c.clear.ensures.after i } in
-    let same : study_of d c.make-calls.new.sheet ≡ after_calls start h = c.make-calls.ensures.after ∙ ap (λ s. after_calls s h) begins in
+    let same : study_of d c.make_calls.new.sheet ≡ after_calls start h = c.make_calls.ensures.after ∙ ap (λ s. after_calls s h) begins in
     let whole : Over c.args.rows.now c.new-drawing.result = c.new-drawing.ensures.spare ∙ ap (λ edges. drop (length edges) c.args.rows.now) (sym c.new-drawing.ensures.edges) in
     record {
-      answers = replayed g.R.TurnRule g.C.CostKind c.args.rule.now (g.C.CostKind.settings c.args.cost.now) c.args.first c.args.last c.args.labels.now c.make-calls.new.labels c.ask-answer.new.labels c.args.route.now c.make-calls.new.route c.ask-answer.new.route (length c.args.queue.now) (length c.make-calls.new.queue) (study_of d c.make-calls.new.sheet) (after_calls start h) c.ask-answer.result
-          c.make-calls.auto.labels c.make-calls.auto.route c.make-calls.auto.queue same c.ask-answer.ensures.answers c.ask-answer.ensures.agrees;
-      rows = rows_back c.args.rows.now _ d (after_calls start h).edges (search rules) (c.make-calls.ensures.rows c.args.rows.now whole) (ap (λ (s : Study). s.edges) same);
+      answers = replayed g.R.TurnRule g.C.CostKind c.args.rule.now (g.C.CostKind.settings c.args.cost.now) c.args.first c.args.last c.args.labels.now c.make_calls.new.labels c.ask-answer.new.labels c.args.route.now c.make_calls.new.route c.ask-answer.new.route (length c.args.queue.now) (length c.make_calls.new.queue) (study_of d c.make_calls.new.sheet) (after_calls start h) c.ask-answer.result
+          c.make_calls.auto.labels c.make_calls.auto.route c.make_calls.auto.queue same c.ask-answer.ensures.answers c.ask-answer.ensures.agrees;
+      rows = rows_back c.args.rows.now _ d (after_calls start h).edges (search rules) (c.make_calls.ensures.rows c.args.rows.now whole) (ap (λ (s : Study). s.edges) same);
       sheet = ap (λ (s : Study). s.sheet) same;
     }

@@ -13,8 +13,8 @@ use Rattle.search.proofs.explore.explore.Goals as goal
 pub opening-requires : goal.opening-requires
 opening-requires g c = omega (arith, c.requires.size, c.requires.drawn)
 
-pub put-in-len-requires : goal.put-in-len-requires
-put-in-len-requires g c = omega (arith, c.requires.size, c.requires.drawn, c.requires.room)
+pub put_in-len-requires : goal.put_in-len-requires
+put_in-len-requires g c = omega (arith, c.requires.size, c.requires.drawn, c.requires.room)
 
 pub returns-then-ground-first-ne0 : goal.returns-then-ground-first-ne0
 returns-then-ground-first-ne0 g c =
@@ -27,11 +27,11 @@ returns-then-ground-first-ne0 g c =
 pub loop-len-init : goal.loop-len-init
 loop-len-init g c =
     let ls : List (Label g.row.C.Denot) = set c.clear.new.labels c.args.first c.opening.result in (
-      subst₂ (Working g.C.CostKind c.args.ground.now ls) (sym c.put-in-len.ensures.after) (sym c.put-in-len.ensures.value)
+      subst₂ (Working g.C.CostKind c.args.ground.now ls) (sym c.put_in-len.ensures.after) (sym c.put_in-len.ensures.value)
           (working_start g.R.TurnRule g.C.CostKind g.met.C.CostKind.measured c.args.ground.now c.clear.new.labels c.args.queue.now c.args.first (omega (arith, c.clear.auto.labels, c.requires.size)) c.requires.covered c.requires.room (omega (arith, c.clear.auto.labels, c.requires.drawn)) c.clear.ensures.blank c.opening.result c.opening.ensures.fine c.opening.ensures.value),
       (
         0,
-        subst₂ (λ q r. Inv (net_of g.R.TurnRule g.C.CostKind c.args.ground.now) c.args.first (label_in g.C.CostKind ls) (in_queue q r) 0) (sym c.put-in-len.ensures.after) (sym c.put-in-len.ensures.value)
+        subst₂ (λ q r. Inv (net_of g.R.TurnRule g.C.CostKind c.args.ground.now) c.args.first (label_in g.C.CostKind ls) (in_queue q r) 0) (sym c.put_in-len.ensures.after) (sym c.put_in-len.ensures.value)
             (inv_begun g.R.TurnRule g.C.CostKind g.met.C.CostKind.measured c.args.ground.now c.clear.new.labels c.args.queue.now c.args.first (omega (arith, c.clear.auto.labels, c.requires.size)) c.requires.covered c.requires.room (omega (arith, c.clear.auto.labels, c.requires.drawn)) c.clear.ensures.blank c.opening.result c.opening.ensures.fine c.opening.ensures.value c.if-ground-first-ne0.false),
       ),
     )

@@ -7,12 +7,12 @@ use Rattle.search.specs.declared.label.Label.{Label}
 use Rattle.search.proofs.Traces.{Tracing, charge_fits, long_fits, previous_drawn, tracing_again, tracing_done, tracing_start, trail_count, trail_plain}
 use Rattle.search.proofs.trace.trace.Goals as goal
 
-pub overflow-cast-place : goal.overflow-cast-place
-overflow-cast-place g c =
+pub overflow_cast-place : goal.overflow_cast-place
+overflow_cast-place g c =
     omega (arith, trail_count g.R.TurnRule g.C.CostKind c.args.ground.now c.args.labels.now c.args.last c.requires.trail.0 c.index-labels-last.result c.requires.trail.1 c.requires.drawn c.index-labels-last.is, c.requires.trail.3)
 
-pub overflow-sub-place : goal.overflow-sub-place
-overflow-sub-place g c = omega (arith, trail_count g.R.TurnRule g.C.CostKind c.args.ground.now c.args.labels.now c.args.last c.requires.trail.0 c.index-labels-last.result c.requires.trail.1 c.requires.drawn c.index-labels-last.is)
+pub overflow_sub-place : goal.overflow_sub-place
+overflow_sub-place g c = omega (arith, trail_count g.R.TurnRule g.C.CostKind c.args.ground.now c.args.labels.now c.args.last c.requires.trail.0 c.index-labels-last.result c.requires.trail.1 c.requires.drawn c.index-labels-last.is)
 
 pub loop-place-init : goal.loop-place-init
 loop-place-init g c =
@@ -25,25 +25,25 @@ loop-place-init g c =
           (trail_plain g.R.TurnRule g.C.CostKind c.args.ground.now c.args.labels.now c.args.last c.requires.trail.0 c.index-labels-last.result c.requires.trail.1 c.requires.drawn c.index-labels-last.is) refl),
     )
 
-pub overflow-cast-reached-in-loop-place : goal.overflow-cast-reached-in-loop-place
-overflow-cast-reached-in-loop-place g c = omega (arith, previous_drawn g.R.TurnRule g.C.CostKind c.args.ground.now c.args.labels.now c.args.last c.args.route.now c.loop-place.at c.loop-place.place c.loop-place.route c.loop-place.charge c.loop-place.length c.loop-place.invariant.2 c.loop-place-test.true c.loop-place.invariant.0 c.index-labels-at.result c.index-labels-at.is, c.edges-edges.ensures.sound.few)
+pub overflow_cast-reached-in-loop-place : goal.overflow_cast-reached-in-loop-place
+overflow_cast-reached-in-loop-place g c = omega (arith, previous_drawn g.R.TurnRule g.C.CostKind c.args.ground.now c.args.labels.now c.args.last c.args.route.now c.loop-place.at c.loop-place.place c.loop-place.route c.loop-place.charge c.loop-place.length c.loop-place.invariant.2 c.loop-place-test.true c.loop-place.invariant.0 c.index-labels-at.result c.index-labels-at.is, c.edges-edges.ensures.sound.few)
 
-pub overflow-add-charge : goal.overflow-add-charge
-overflow-add-charge g c =
+pub overflow_add-charge : goal.overflow_add-charge
+overflow_add-charge g c =
     let small : (e f : ℕ) → g.R.TurnRule.charge c.args.ground.now.rule.now (plan_of c.args.ground.now.drawing.now) e f ≤ 1000 = λ e f. omega (arith, g.met.R.TurnRule.bounded c.args.ground.now.rule.now (plan_of c.args.ground.now.drawing.now) e f c.edges-edges.ensures.sound, g.met.R.TurnRule.small) in
     omega (arith, c.charge-charge.ensures.value, charge_fits g.R.TurnRule g.C.CostKind c.args.ground.now c.args.labels.now c.args.last c.args.route.now c.loop-place.at c.loop-place.place c.loop-place.route c.loop-place.charge c.loop-place.length c.loop-place.invariant.2 c.loop-place-test.true c.loop-place.invariant.0 c.index-labels-at.result c.index-labels-at.is small)
 
-pub overflow-cast-length-in-loop-place : goal.overflow-cast-length-in-loop-place
-overflow-cast-length-in-loop-place g c = omega (arith, previous_drawn g.R.TurnRule g.C.CostKind c.args.ground.now c.args.labels.now c.args.last c.args.route.now c.loop-place.at c.loop-place.place c.loop-place.route c.loop-place.charge c.loop-place.length c.loop-place.invariant.2 c.loop-place-test.true c.loop-place.invariant.0 c.index-labels-at.result c.index-labels-at.is, c.edges-edges.ensures.sound.few)
+pub overflow_cast-length-in-loop-place : goal.overflow_cast-length-in-loop-place
+overflow_cast-length-in-loop-place g c = omega (arith, previous_drawn g.R.TurnRule g.C.CostKind c.args.ground.now c.args.labels.now c.args.last c.args.route.now c.loop-place.at c.loop-place.place c.loop-place.route c.loop-place.charge c.loop-place.length c.loop-place.invariant.2 c.loop-place-test.true c.loop-place.invariant.0 c.index-labels-at.result c.index-labels-at.is, c.edges-edges.ensures.sound.few)
 
-pub offset-bounds-edges-at : goal.offset-bounds-edges-at
-offset-bounds-edges-at g c = omega (arith, previous_drawn g.R.TurnRule g.C.CostKind c.args.ground.now c.args.labels.now c.args.last c.args.route.now c.loop-place.at c.loop-place.place c.loop-place.route c.loop-place.charge c.loop-place.length c.loop-place.invariant.2 c.loop-place-test.true c.loop-place.invariant.0 c.index-labels-at.result c.index-labels-at.is, c.edges-edges.ensures.sound.few)
+pub offset_bounds-edges-at : goal.offset_bounds-edges-at
+offset_bounds-edges-at g c = omega (arith, previous_drawn g.R.TurnRule g.C.CostKind c.args.ground.now c.args.labels.now c.args.last c.args.route.now c.loop-place.at c.loop-place.place c.loop-place.route c.loop-place.charge c.loop-place.length c.loop-place.invariant.2 c.loop-place-test.true c.loop-place.invariant.0 c.index-labels-at.result c.index-labels-at.is, c.edges-edges.ensures.sound.few)
 
 pub bounds-edges-at : goal.bounds-edges-at
 bounds-edges-at g c = omega (arith, previous_drawn g.R.TurnRule g.C.CostKind c.args.ground.now c.args.labels.now c.args.last c.args.route.now c.loop-place.at c.loop-place.place c.loop-place.route c.loop-place.charge c.loop-place.length c.loop-place.invariant.2 c.loop-place-test.true c.loop-place.invariant.0 c.index-labels-at.result c.index-labels-at.is, ap length c.edges-edges.ensures.value)
 
-pub overflow-add-length : goal.overflow-add-length
-overflow-add-length g c =
+pub overflow_add-length : goal.overflow_add-length
+overflow_add-length g c =
     let long = ap (λ rows. (get_or rows c.index-labels-at.result.previous no_row).length) c.edges-edges.ensures.value in
     omega (arith, long, long_fits g.R.TurnRule g.C.CostKind c.args.ground.now c.args.labels.now c.args.last c.args.route.now c.loop-place.at c.loop-place.place c.loop-place.route c.loop-place.charge c.loop-place.length c.loop-place.invariant.2 c.loop-place-test.true c.loop-place.invariant.0 c.index-labels-at.result c.index-labels-at.is)
 

@@ -4,13 +4,13 @@ use Rattle.std.specs.Int.{IsInRange}
 use Rattle.text.proofs.Spelling.{number_some, number_short, number_first, number_digits, front_small, front_more, spelt_value}
 use Rattle.text.proofs.number.number.Goals as goal
 
-pub returns-then-is-empty : goal.returns-then-is-empty
-returns-then-is-empty c =
+pub returns-then-is_empty : goal.returns-then-is_empty
+returns-then-is_empty c =
     let f = c.args.field.now in
     record {
       cases = λ n.
-          elim c.then-is-empty.either [
-            | inl e ↦ omega (arith, number_some f n, eqb-true (length f) 0 (sym c.is-empty.ensures ∙ e))
+          elim c.then-is_empty.either [
+            | inl e ↦ omega (arith, number_some f n, eqb-true (length f) 0 (sym c.is_empty.ensures ∙ e))
             | inr e ↦ omega (arith, number_short f n)
           ];
     }
@@ -22,12 +22,12 @@ pub returns-then-digit-lt48 : goal.returns-then-digit-lt48
 returns-then-digit-lt48 c =
     record { cases = λ n. omega (arith, number_digits c.args.field.now n c.loop-digit.digit-index c.loop-digit-test.true) }
 
-pub overflow-mul-value : goal.overflow-mul-value
-overflow-mul-value c =
+pub overflow_mul-value : goal.overflow_mul-value
+overflow_mul-value c =
     omega (arith, c.loop-digit.invariant.1, front_small c.args.field.now c.loop-digit.digit-index c.loop-digit.invariant.0 (omega arith) (omega arith))
 
-pub overflow-add-value : goal.overflow-add-value
-overflow-add-value c =
+pub overflow_add-value : goal.overflow_add-value
+overflow_add-value c =
     omega (arith, c.loop-digit.invariant.1, front_small c.args.field.now c.loop-digit.digit-index c.loop-digit.invariant.0 (omega arith) (omega arith))
 
 pub loop-digit-preserved : goal.loop-digit-preserved
@@ -42,5 +42,5 @@ pub returns : goal.returns
 returns c =
     let f = c.args.field.now in
     record {
-      cases = spelt_value f c.loop-digit.digit-index c.loop-digit.value c.loop-digit.invariant.0 c.loop-digit-test.false c.loop-digit.invariant.1 (omega (arith, eqb-false (length f) 0 (sym c.if-is-empty.ensures))) c.if-field-gt-MOST-DIGITS.false (λ e. omega arith);
+      cases = spelt_value f c.loop-digit.digit-index c.loop-digit.value c.loop-digit.invariant.0 c.loop-digit-test.false c.loop-digit.invariant.1 (omega (arith, eqb-false (length f) 0 (sym c.if-is_empty.ensures))) c.if-field-gt-MOST-DIGITS.false (λ e. omega arith);
     }

@@ -6,7 +6,7 @@ use Rattle.text.proofs.player.play_drawn.Goals as goal
 pub returns : goal.returns
 returns c =
     let new = c.new-drawing.ensures in
-    let rest = c.play-rest-played.ensures in
+    let rest = c.play_rest-played.ensures in
     record {
-      cases = λ size. play_new c.args.rows.now _ c.new-drawing.result c.play-rest-played.new.drawing (limits_of c.args.limits) c.args.sheet.now c.play-rest-played.new.sheet c.args.lines.now (string_bytes c.args.text.now) (string_bytes c.play-rest-played.new.text) c.play-rest-played.result size new.limits new.edges new.rows new.spare (search rules) rest.over (rest.cases (length c.args.rows.now) size);
+      cases = λ size. play_new c.args.rows.now _ c.new-drawing.result c.play_rest-played.new.drawing (limits_of c.args.limits) c.args.sheet.now c.play_rest-played.new.sheet c.args.lines.now (string_bytes c.args.text.now) (string_bytes c.play_rest-played.new.text) c.play_rest-played.result size new.limits new.edges new.rows new.spare (search rules) rest.over (rest.cases (length c.args.rows.now) size);
     }

@@ -13,9 +13,9 @@ bounds-self-at c =
     let d = drawable (rows_of c.args.self.now) (plan_of c.args.self.now).edges c.args.row c.requires in
     omega (arith, d.room, edges_count c.args.self.now, rows_count c.args.self.now)
 
-pub invariant-of-self : goal.invariant-of-self
+pub invariant_of-self : goal.invariant_of-self
 unfolding plan_of
-invariant-of-self c =
+invariant_of-self c =
     let self : Drawing = c.args.self.now in
     let d = drawable (rows_of c.args.self.now) (plan_of c.args.self.now).edges c.args.row c.requires in
     let room : self.count < length self.rows.now = omega (arith, d.room, edges_count self, rows_count self) in (

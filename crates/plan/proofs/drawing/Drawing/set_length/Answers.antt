@@ -7,14 +7,14 @@ use Rattle.plan.proofs.Drawn.{edges_count}
 use Rattle.plan.proofs.Measures.{with_length, count-measured, edges_measured, fine-measured}
 use Rattle.plan.proofs.drawing.Drawing.set_length.Goals as goal
 
-pub offset-bounds-self-at : goal.offset-bounds-self-at
-offset-bounds-self-at c = let self : Drawing = c.args.self.now in omega (arith, edges_count self, self.few, c.requires.1)
+pub offset_bounds-self-at : goal.offset_bounds-self-at
+offset_bounds-self-at c = let self : Drawing = c.args.self.now in omega (arith, edges_count self, self.few, c.requires.1)
 
 pub bounds-self-at : goal.bounds-self-at
 bounds-self-at c = let self : Drawing = c.args.self.now in omega (arith, edges_count self, self.within, c.requires.1)
 
-pub invariant-of-self : goal.invariant-of-self
-invariant-of-self c =
+pub invariant_of-self : goal.invariant_of-self
+invariant_of-self c =
     let self : Drawing = c.args.self.now in
     let drawn : c.args.at < self.count = omega (arith, edges_count self, c.requires.1) in (
       (rw length-set self.within),

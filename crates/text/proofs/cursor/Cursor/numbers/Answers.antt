@@ -8,16 +8,16 @@ use Rattle.text.proofs.cursor.Cursor.numbers.Goals as goal
 pub loop-i-init : goal.loop-i-init
 loop-i-init g c = read_none _ _ _ _ (length-replicate g.row.N 0)
 
-pub returns-in-err-found : goal.returns-in-err-found
-returns-in-err-found g c =
-    let p = err_from_is_err_and c.from-residual.result c.from-residual.ensures.1 in
-    let h = c.in-err-found.ensures.cases in
+pub returns-in_err-found : goal.returns-in_err-found
+returns-in_err-found g c =
+    let p = err_from_is_err_and c.from_residual.result c.from_residual.ensures.1 in
+    let h = c.in_err-found.ensures.cases in
     record { cases = rw (p.1, p.2, h.0) (read_miss _ _ _ _ _ _ _ c.loop-i.invariant c.loop-i-test.true h.1) }
 
 pub loop-i-preserved : goal.loop-i-preserved
 loop-i-preserved g c =
-    let h = c.in-ok-found.ensures.cases in
-    read_more _ _ _ _ _ _ _ c.loop-i.invariant c.loop-i-test.true c.in-ok-found.field-0 (fields_left c.number.new.self) h.0 h.1
+    let h = c.in_ok-found.ensures.cases in
+    read_more _ _ _ _ _ _ _ c.loop-i.invariant c.loop-i-test.true c.in_ok-found.field-0 (fields_left c.number.new.self) h.0 h.1
 
 pub returns-in-None : goal.returns-in-None
 returns-in-None g c = record { cases = read_all _ _ _ _ _ _ _ c.loop-i.invariant (omega arith) c.in-None.ensures.cases }
