@@ -1,9 +1,7 @@
 -- The drawn rows of a drawing, as lists.
-use Rattle.std.proofs.Common.{◌≡◌, ℕ, ◌+◌, ◌<◌, ◌≤◌, true, length, take, refl, arith}
+use Rattle.std.proofs.Common.{◌≡◌, ◌<◌, length, take, refl, arith}
 use Rattle.std.proofs.lemmas.List.{length-take-le, get_or-take}
 use Rattle.plan.specs.Plans.{Sound, plan_of, rows_of, no_row}
-use Rattle.plan.specs.Rows.{fine}
-use Rattle.plan.specs.declared.row.EdgeRow.{EdgeRow}
 use Rattle.plan.specs.declared.drawing.Drawing.{Drawing}
 
 pub edges_count : (d : Drawing) → length (plan_of d).edges ≡ d.count

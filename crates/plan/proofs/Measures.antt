@@ -1,11 +1,11 @@
 -- A new length in one drawn row keeps what a drawing promises of its rows.
-use Rattle.std.proofs.Common.{◌≡◌, ℕ, ◌+◌, ◌<◌, ◌≤◌, Bool, true, false, cond, not, ◌&&◌, eqb, ltb, leb, ◌⊎◌, List, [], ◌∷◌, ◌++◌, length, get_or, take, set, Some, None, count_by, sym, refl, ap, ◌∙◌, subst, inl, inr, arith}
+use Rattle.std.proofs.Common.{◌≡◌, ℕ, ◌<◌, ◌≤◌, Bool, true, cond, not, eqb, ltb, leb, ◌⊎◌, List, length, get_or, take, set, None, count_by, sym, ap, ◌∙◌, inl, inr, arith}
 use lib.Seq.{take-set-lt}
 use Rattle.std.proofs.lemmas.List.{length-take-le, get_or-take, get_or-set_same, get_or-set_other}
 use Rattle.std.proofs.lemmas.List.Sums.{sum_by-set}
 use Rattle.std.proofs.lemmas.Bool.{and_parts, and_from, ltb-false, lt-ltb, le-leb, cases_eq}
 use Rattle.plan.specs.Plans.{no_row}
-use Rattle.plan.specs.Rows.{fine, joins, leaves}
+use Rattle.plan.specs.Rows.{fine}
 use Rattle.plan.specs.Studies.{row_of, length_fault, measured}
 use Rattle.plan.specs.declared.row.EdgeRow.{EdgeRow}
 use Rattle.plan.proofs.Faults.{passed}

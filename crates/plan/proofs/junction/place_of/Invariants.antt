@@ -1,4 +1,4 @@
-use Rattle.std.proofs.Common.{◌≡◌, ◌+◌, not, drop}
+use Rattle.std.proofs.Common.{◌≡◌, ◌+◌, drop}
 use Rattle.plan.specs.Studies.{place}
 use Rattle.plan.proofs.junction.place_of.Given as goal
 

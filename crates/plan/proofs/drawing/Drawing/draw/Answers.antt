@@ -2,7 +2,7 @@ use Rattle.std.proofs.Common.{◌≡◌, length, Some, None, Ok, Err, Option, sy
 use Rattle.std.proofs.lemmas.Result.{err_from_is_err_and}
 use Rattle.turns.specs.declared.fault.PlanFault.{PlanFault}
 use Rattle.plan.specs.Plans.{plan_of, rows_of, spare_of}
-use Rattle.plan.specs.Studies.{room_fault, row_fault, row_of, neighbour_fault, draw_fault, otherwise, put_last, study_of, answered}
+use Rattle.plan.specs.Studies.{room_fault, row_fault, row_of, neighbour_fault, otherwise, put_last, study_of, answered}
 use Rattle.plan.specs.declared.drawing.Drawing.{Drawing}
 use Rattle.plan.proofs.Faults.{answered_ok, answered_err, first_fault, second_fault, refused, study_is, moved}
 use Rattle.plan.proofs.drawing.Drawing.draw.Goals as goal

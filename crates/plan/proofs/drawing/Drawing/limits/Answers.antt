@@ -1,5 +1,5 @@
 use Rattle.std.proofs.Common.{rules}
-use Rattle.plan.specs.Plans.{plan_of, rows_of, spare_of}
+use Rattle.plan.specs.Plans.{plan_of, spare_of}
 use Rattle.plan.proofs.drawing.Drawing.limits.Goals as goal
 
 pub returns : goal.returns

@@ -1,6 +1,6 @@
-use Rattle.std.proofs.Common.{◌≡◌, ◌<◌, length, get_or, sym, refl, ap, ◌∙◌, arith}
+use Rattle.std.proofs.Common.{◌<◌, get_or, refl, arith}
 use Rattle.std.proofs.lemmas.List.{length-set, drop-set-lt}
-use Rattle.plan.specs.Plans.{plan_of, rows_of, spare_of, no_row}
+use Rattle.plan.specs.Plans.{plan_of, spare_of, no_row}
 use Rattle.plan.specs.Rows.{joins, leaves}
 use Rattle.plan.specs.declared.drawing.Drawing.{Drawing}
 use Rattle.plan.proofs.Drawn.{edges_count}
@@ -16,22 +16,14 @@ bounds-self-at c = let self : Drawing = c.args.self.now in omega (arith, edges_c
 pub invariant_of-self : goal.invariant_of-self
 invariant_of-self c =
     let self : Drawing = c.args.self.now in
-    let drawn : c.args.at < self.count = omega (arith, edges_count self, c.requires.1) in (
-      (rw length-set self.within),
-      (
-        self.few,
-        (
-          fine-measured self.rows.now self.count c.args.at c.args.length self.within drawn c.requires.0 self.bounds,
-          (
-            (λ s e. omega (arith, count-measured self.rows.now self.count c.args.at c.args.length self.within drawn (joins s e) (λ r. refl), self.single s e)),
-            (
-              (λ s. omega (arith, count-measured self.rows.now self.count c.args.at c.args.length self.within drawn (leaves s) (λ r. refl), self.narrow s)),
-              tt,
-            ),
-          ),
-        ),
-      ),
-    )
+    let drawn : c.args.at < self.count = omega (arith, edges_count self, c.requires.1) in
+    record {
+      within = rw length-set self.within;
+      few = self.few;
+      bounds = fine-measured self.rows.now self.count c.args.at c.args.length self.within drawn c.requires.0 self.bounds;
+      single = λ s e. omega (arith, count-measured self.rows.now self.count c.args.at c.args.length self.within drawn (joins s e) (λ r. refl), self.single s e);
+      narrow = λ s. omega (arith, count-measured self.rows.now self.count c.args.at c.args.length self.within drawn (leaves s) (λ r. refl), self.narrow s);
+    }
 
 pub returns : goal.returns
 unfolding plan_of spare_of
