@@ -1,4 +1,4 @@
-use Rattle.std.proofs.Common.{◌≡◌, ℕ, ◌+◌, Bool, sym, ap, ◌∙◌, arith}
+use Rattle.std.proofs.Common.{ℕ, ◌+◌, Bool, sym, ap, ◌∙◌, arith}
 use Rattle.plan.specs.Plans.{plan_of}
 use Rattle.rules.specs.Ambiguity.{other}
 use Rattle.rules.specs.Counts.{count_step, one_if}

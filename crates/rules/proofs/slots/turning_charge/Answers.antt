@@ -1,6 +1,5 @@
 use Rattle.std.proofs.Common.{◌≡◌, ℕ, List, get_or, sym, ap, ◌∙◌, arith}
 use Rattle.plan.specs.Plans.{Plan, plan_of, degree, edge_at, no_row}
-use Rattle.plan.specs.declared.drawing.Drawing.{Drawing}
 use Rattle.plan.specs.declared.row.EdgeRow.{EdgeRow}
 use Rattle.rules.proofs.Turning.{at_two, at_three, past_three}
 use Rattle.rules.proofs.slots.turning_charge.Goals as goal
