@@ -1,17 +1,16 @@
 -- Alike questions over equal drawings with the same edges shut have the same outcome.
-use Rattle.std.proofs.Common.{◌≡◌, ℕ, ◌<◌, not, List, ◌++◌, length, take, drop, None, Ok, Err, Result, sym, refl, ap, ◌∙◌, subst, subst₂, arith}
+use Rattle.std.proofs.Common.{◌≡◌, ℕ, not, List, ◌++◌, length, take, drop, Ok, Err, Result, sym, refl, ap, ◌∙◌, subst, subst₂}
 use Rattle.std.proofs.lemmas.List.{take_at}
 use Rattle.cost.specs.declared.kind.CostKind.{Ghosts as Kind}
-use Rattle.plan.specs.Plans.{Plan, edge_at, steps}
+use Rattle.plan.specs.Plans.{edge_at, steps}
 use Rattle.plan.specs.Studies.{Study}
-use Rattle.walks.specs.Networks.{Alike as Matched, Leads, Network, Simplest}
-use Rattle.walks.proofs.Alike.{alike_agree, alike_sym, leads_alike, simplest_alike}
+use Rattle.walks.specs.Networks.{Alike as Matched, Network}
+use Rattle.walks.proofs.Alike.{alike_agree, alike_sym, leads_alike}
 use Rattle.walks.proofs.Routes.{simplest_unique}
-use Rattle.search.specs.Histories.{Agrees, Alike, SameAnswer, SameOutcome}
-use Rattle.search.specs.Questions.{Answers, AnswersBy, HasAnswer, Outcome, Question, Searched, ground_at, plan_at, question_fault}
+use Rattle.search.specs.Histories.{Agrees, Alike, SameOutcome}
+use Rattle.search.specs.Questions.{Answers, AnswersBy, HasAnswer, Outcome, Question, Searched, ground_at, plan_at}
 use Rattle.search.specs.declared.answer.Answer.{Answer}
 use Rattle.search.specs.declared.fault.QuestionFault.{QuestionFault}
-use Rattle.search.specs.declared.fault.QuestionFault.TheVariants.{NoWalk}
 use Rattle.search.specs.declared.label.Label.{Label}
 
 same_plan : {S : Type 0} (s : Study) (q : Question) (σ : S) (s₂ : Study) (q₂ : Question) (σ₂ : S) → Alike s q σ s₂ q₂ σ₂ → plan_at s₂ ≡ plan_at s

@@ -1,10 +1,10 @@
 -- The checks of a question, and its answer over the whole lists.
-use Rattle.std.proofs.Common.{◌≡◌, ℕ, ◌-◌, ◌<◌, ◌≤◌, Bool, true, false, cond, ltb, leb, List, ◌++◌, length, take, drop, Some, None, Ok, Err, Option, Result, sym, refl, ap, ◌∙◌, subst, arith}
+use Rattle.std.proofs.Common.{◌≡◌, ℕ, ◌<◌, ◌≤◌, Bool, true, false, cond, ltb, leb, List, ◌++◌, length, drop, Some, None, Ok, Err, Option, Result, sym, refl, subst, arith}
 use Rattle.std.proofs.lemmas.List.{drop_at, length-append, length-drop, take_at}
 use Rattle.std.proofs.lemmas.Bool.{leb-false, ltb-false}
 use Rattle.cost.specs.declared.kind.CostKind.{Ghosts as Kind}
 use Rattle.plan.specs.Studies.{Study}
-use Rattle.search.specs.Questions.{AllLabelled, Answers, AnswersBy, Outcome, Question, Searched, checked, fault_by, ground_at, question_fault}
+use Rattle.search.specs.Questions.{AllLabelled, Answers, AnswersBy, Outcome, Question, checked, fault_by, ground_at, question_fault}
 use Rattle.search.specs.declared.answer.Answer.{Answer}
 use Rattle.search.specs.declared.fault.QuestionFault.{QuestionFault}
 use Rattle.search.specs.declared.label.Label.{Label}

@@ -1,23 +1,16 @@
 -- From certified labels to the outcome of a question.
-use Rattle.std.proofs.Common.{◌≡◌, ℕ, ◌+◌, ◌<◌, ◌≤◌, ◌⊎◌, List, ◌∷◌, ◌++◌, reverse, length, get_or, drop, Some, None, Ok, Err, sym, refl, ap, ◌∙◌, subst, inl, inr, add-one, arith}
+use Rattle.std.proofs.Common.{◌≡◌, ℕ, ◌+◌, ◌<◌, ◌≤◌, ◌⊎◌, List, ◌∷◌, ◌++◌, reverse, length, get_or, drop, Some, None, Ok, sym, ap, ◌∙◌, subst, inl, inr, add-one, arith}
 use Rattle.std.proofs.lemmas.List.{get_or_default, length-reverse}
 use Rattle.std.proofs.lemmas.Bool.{cases_eq}
 use Rattle.cost.specs.declared.kind.CostKind.{Ghosts as Kind}
-use Rattle.rules.specs.declared.rule.TurnRule.{Ghosts as Rule}
-use Rattle.plan.specs.Plans.{plan_of}
 use Rattle.walks.specs.Labels.{Certified, Label as Mark, Trail, label_of}
 use Rattle.walks.specs.Networks.{Even, Leads, Network, Simplest}
 use Rattle.walks.proofs.Certificate.{certificate, certified_trail}
-use Rattle.search.specs.Grounds.{net_of, settings_of}
 use Rattle.search.specs.Labels.{Each, Fine, Short, label_in, plain}
-use Rattle.search.specs.Questions.{AllLabelled, HasAnswer, HasLabel, Labelled, Outcome}
+use Rattle.search.specs.Questions.{AllLabelled, Labelled, Outcome}
 use Rattle.search.specs.Traces.{Traceable, Traced}
-use Rattle.search.specs.declared.answer.Answer.{Answer}
-use Rattle.search.specs.declared.fault.QuestionFault.TheVariants.{NoWalk}
-use Rattle.search.specs.declared.ground.Ground.{Ground}
 use Rattle.search.specs.declared.label.Label.{Label}
 use Rattle.search.proofs.Marks.{label_read, meaning_none, meaning_some}
-use Rattle.search.proofs.Steps.{Measured}
 
 module _ {C : Type 0} (K : Kind C) (σ : K.Settings) (few : (c : C) → K.additions c ≤ 1024) (g : Network) (even : Even g) (a : ℕ) (ls : List (Label C)) (certified : Certified g a (label_in K ls)) (fine : Each (Fine K σ) ls) where
   read_none : (e : ℕ) (x : Label C) → e < length ls → x ≡ get_or ls e x → x.edges ≡ 0 → label_in K ls e ≡ None

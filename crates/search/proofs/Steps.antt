@@ -1,21 +1,21 @@
 -- Relaxing one step keeps the lists of a search in order, and what is relaxed.
-use Rattle.std.proofs.Common.{◌≡◌, ℕ, ◌+◌, ◌<◌, ◌≤◌, Bool, true, false, eqb, ltb, ◌⊎◌, List, length, get_or, set, Some, None, sym, refl, ap, ◌∙◌, subst, inl, inr, arith}
+use Rattle.std.proofs.Common.{◌≡◌, ℕ, ◌+◌, ◌<◌, ◌≤◌, true, false, eqb, ltb, ◌⊎◌, List, length, get_or, set, Some, sym, refl, ap, ◌∙◌, subst, inl, inr, arith}
 use Rattle.std.proofs.lemmas.List.{get_or_read, get_or-set_same, get_or-set_other, length-set}
 use Rattle.std.proofs.lemmas.Bool.{and_parts, cases_Bool, cases_eq, eqb-true}
 use Rattle.cost.specs.declared.kind.CostKind.{Ghosts as Kind}
 use Rattle.rules.specs.declared.rule.TurnRule.{Ghosts as Rule}
 use Rattle.plan.specs.Plans.{Plan, plan_of, edge_at, steps}
 use Rattle.plan.proofs.Drawn.{sound_of}
-use Rattle.walks.specs.Labels.{Label as Mark, AtMost, LabelLess, Relaxed, extension}
+use Rattle.walks.specs.Labels.{Label as Mark, AtMost, LabelLess, extension}
 use Rattle.walks.specs.Loop.{Relaxing, with_label, with_flag}
-use Rattle.walks.specs.Networks.{Network, Even, Usable, Step}
+use Rattle.walks.specs.Networks.{Even, Usable, Step}
 use Rattle.walks.proofs.Keys.{label_less_asym, less_at_most}
 use Rattle.walks.proofs.Loop.{flag_other, relaxing_same}
 use Rattle.walks.proofs.Options.{some_only}
 use Rattle.walks.proofs.Relax.{relax_better, relax_full, relax_keep, relax_kept, relax_new, relax_settled}
 use Rattle.search.specs.Grounds.{net_of, settings_of}
-use Rattle.search.specs.Labels.{plain, meaning, label_in, Fine, Each}
-use Rattle.search.specs.Queues.{Filled, in_queue, put_in}
+use Rattle.search.specs.Labels.{plain, label_in, Fine}
+use Rattle.search.specs.Queues.{in_queue, put_in}
 use Rattle.search.specs.Stages.{Keeps, Offered, Working}
 use Rattle.search.specs.declared.ground.Ground.{Ground}
 use Rattle.search.specs.declared.label.Label.{Label}

@@ -9,7 +9,7 @@
 --   Filled slots len n          the first len slots hold len different edges below n, and there is a slot for each of the n edges
 --   Least K ls slots len i      of the edges in the first len slots, that in the slot i has a label with the least cost and, of equal cost, the fewest edges
 -- Assumes nothing.
-use Rattle.std.specs.Prelude.{◌≡◌, ℕ, ◌<◌, ◌≤◌, Bool, true, List, length, get_or, take, count_by, ◌==◌, nat_lt, slice_index_or, slice_set}
+use Rattle.std.specs.Prelude.{◌≡◌, ℕ, ◌<◌, ◌≤◌, Bool, List, length, get_or, take, count_by, ◌==◌, nat_lt, slice_index_or, slice_set}
 use Rattle.cost.specs.declared.kind.CostKind.{Ghosts as Kind}
 use Rattle.walks.specs.Labels.{KeyAtMost}
 use Rattle.walks.specs.Loop.{tally}

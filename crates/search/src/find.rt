@@ -1,5 +1,5 @@
 // The search and its outcome, over lists of the right size.
-ghost use Rattle.std.specs.Prelude.{◌≡◌, ℕ, ◌<◌, ◌≤◌, length as length-of};
+ghost use Rattle.std.specs.Prelude.{◌≡◌, ℕ, ◌<◌, ◌≤◌, length as length_of};
 ghost use Rattle.plan.specs.Plans.{plan_of};
 ghost use Rattle.search.specs.Grounds.{net_of, settings_of};
 ghost use Rattle.search.specs.Questions.{AllLabelled, Outcome};
@@ -23,12 +23,12 @@ pub(crate) fn find<R: TurnRule, C: CostKind>(
     queue: &mut [QueueSlot],
     route: &mut [u16],
 ) -> Result<Answer<C>, QuestionFault>
-    requires size { length-of labels.old ≡ length-of (plan_of ground.now.drawing.now).edges }
-    requires covered { length-of (plan_of ground.now.drawing.now).edges ≤ length-of ground.now.sheet.now }
-    requires room { length-of (plan_of ground.now.drawing.now).edges ≤ length-of queue.old }
-    requires long { length-of (plan_of ground.now.drawing.now).edges ≤ length-of route.old }
-    requires from { first < length-of labels.old }
-    requires to { last < length-of labels.old }
+    requires size { length_of labels.old ≡ length_of (plan_of ground.now.drawing.now).edges }
+    requires covered { length_of (plan_of ground.now.drawing.now).edges ≤ length_of ground.now.sheet.now }
+    requires room { length_of (plan_of ground.now.drawing.now).edges ≤ length_of queue.old }
+    requires long { length_of (plan_of ground.now.drawing.now).edges ≤ length_of route.old }
+    requires from { first < length_of labels.old }
+    requires to { last < length_of labels.old }
     ensures outcome { Outcome C.CostKind (settings_of C.CostKind ground.now) (net_of R.TurnRule C.CostKind ground.now) first last route.old route.new result }
     ensures labelled { AllLabelled C.CostKind (settings_of C.CostKind ground.now) (net_of R.TurnRule C.CostKind ground.now) first labels.new }
 {

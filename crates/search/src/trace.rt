@@ -1,5 +1,5 @@
 // Writing the route, from its last edge back to its first.
-ghost use Rattle.std.specs.Prelude.{◌≡◌, ℕ, ◌<◌, List, length as length-of};
+ghost use Rattle.std.specs.Prelude.{◌≡◌, ℕ, ◌<◌, List, length as length_of};
 ghost use Rattle.plan.specs.Plans.{plan_of};
 ghost use Rattle.walks.specs.Labels.{Trail};
 ghost use Rattle.search.specs.Grounds.{net_of};
@@ -19,9 +19,9 @@ pub(crate) fn trace<R: TurnRule, C: CostKind>(
     last: u16,
     route: &mut [u16],
 ) -> (u32, u32)
-    requires size { length-of labels.now ≡ length-of (plan_of ground.now.drawing.now).edges }
-    requires drawn { last < length-of labels.now }
-    requires trail { Traceable (net_of R.TurnRule C.CostKind ground.now) (label_in C.CostKind labels.now) last (length-of route.old) }
+    requires size { length_of labels.now ≡ length_of (plan_of ground.now.drawing.now).edges }
+    requires drawn { last < length_of labels.now }
+    requires trail { Traceable (net_of R.TurnRule C.CostKind ground.now) (label_in C.CostKind labels.now) last (length_of route.old) }
     ensures traced { (t : List ℕ) → Trail (net_of R.TurnRule C.CostKind ground.now) (label_in C.CostKind labels.now) last t → Traced (net_of R.TurnRule C.CostKind ground.now) last t route.old route.new result.0 result.1 }
 {
     let edges = ground.drawing.edges();

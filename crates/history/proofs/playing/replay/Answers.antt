@@ -1,9 +1,7 @@
-use Rattle.std.proofs.Common.{◌≡◌, List, length, drop, sym, ap, ◌∙◌, subst, rules}
+use Rattle.std.proofs.Common.{◌≡◌, List, length, drop, sym, ap, ◌∙◌, rules}
 use Rattle.turns.specs.Sectors.{limits_of}
-use Rattle.plan.specs.Plans.{plan_of, spare_of}
 use Rattle.plan.specs.Studies.{Study, begun, study_of}
 use Rattle.plan.specs.declared.drawing.Drawing.{Drawing}
-use Rattle.plan.specs.declared.row.EdgeRow.{EdgeRow}
 use Rattle.search.specs.Histories.{Call as Event, after_calls}
 use Rattle.history.specs.Replays.{Over, calls_of}
 use Rattle.history.proofs.Runs.{replayed, rows_back}

@@ -1,4 +1,4 @@
-use Rattle.std.proofs.Common.{◌≡◌, ℕ, ◌+◌, ◌<◌, List, length, set, sym, subst₂, arith}
+use Rattle.std.proofs.Common.{ℕ, ◌+◌, List, set, sym, subst₂, arith}
 use Rattle.walks.specs.Loop.{Inv}
 use Rattle.walks.proofs.Loop.{label_edges}
 use Rattle.walks.proofs.Options.{none_not_some}

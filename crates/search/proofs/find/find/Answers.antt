@@ -1,4 +1,4 @@
-use Rattle.std.proofs.Common.{◌<◌, length, refl, arith}
+use Rattle.std.proofs.Common.{length, refl, arith}
 use Rattle.plan.specs.Plans.{plan_of}
 use Rattle.search.specs.Grounds.{net_of, settings_of}
 use Rattle.search.proofs.Founds.{all_labelled, outcome_found, traceable, unreached}

@@ -1,5 +1,5 @@
-use Rattle.std.proofs.Common.{◌≡◌, ℕ, ◌≤◌, get_or, sym, ap, ◌∙◌, arith}
-use Rattle.plan.specs.Plans.{Plan, plan_of, edge_at, no_row}
+use Rattle.std.proofs.Common.{◌≤◌, get_or, ap, arith}
+use Rattle.plan.specs.Plans.{Plan, plan_of, no_row}
 use Rattle.search.proofs.Adds.{spent, edge_long}
 use Rattle.search.proofs.offer.offer.Goals as goal
 

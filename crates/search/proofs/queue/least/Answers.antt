@@ -1,4 +1,4 @@
-use Rattle.std.proofs.Common.{◌≡◌, ℕ, ◌+◌, ◌<◌, Bool, MatchBool, sym, subst, arith}
+use Rattle.std.proofs.Common.{ℕ, ◌+◌, ◌<◌, Bool, MatchBool, sym, subst, arith}
 use Rattle.walks.specs.Labels.{KeyLess, KeyAtMost}
 use Rattle.search.specs.Labels.{plain}
 use Rattle.search.specs.Queues.{Least}

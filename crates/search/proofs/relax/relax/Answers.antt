@@ -1,8 +1,6 @@
-use Rattle.std.proofs.Common.{◌≡◌, ◌+◌, ◌<◌, List, set, sym, subst₂, arith}
-use Rattle.search.specs.Queues.{put_in}
+use Rattle.std.proofs.Common.{◌+◌, ◌<◌, List, set, sym, subst₂, arith}
 use Rattle.search.specs.Stages.{Keeps, Working}
 use Rattle.search.specs.declared.label.Label.{Label}
-use Rattle.search.specs.declared.queue.QueueSlot.{QueueSlot}
 use Rattle.search.proofs.Steps.{keeps_better, keeps_new, keeps_none, keeps_old, room_new, working_better, working_new}
 use Rattle.search.proofs.relax.relax.Goals as goal
 

@@ -1,4 +1,4 @@
-use Rattle.std.proofs.Common.{◌≡◌, ℕ, ◌+◌, ◌<◌, ◌≤◌, List, length, get_or, sym, ap, ◌∙◌, subst, arith}
+use Rattle.std.proofs.Common.{◌≡◌, ℕ, ◌+◌, ◌<◌, List, length, get_or, sym, ap, subst, arith}
 use mathlib.Core.Path.{subst₃}
 use Rattle.plan.specs.Plans.{plan_of, no_row}
 use Rattle.search.specs.Stages.{Keeps, Working}

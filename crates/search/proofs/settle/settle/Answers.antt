@@ -1,12 +1,10 @@
-use Rattle.std.proofs.Common.{◌≡◌, ℕ, ◌+◌, ◌-◌, List, length, get_or, sym, ap, ◌∙◌, subst, subst₂, arith}
-use Rattle.plan.specs.Plans.{plan_of}
+use Rattle.std.proofs.Common.{◌+◌, ◌-◌, get_or, sym, ap, ◌∙◌, subst, subst₂, arith}
 use Rattle.walks.specs.Loop.{Relaxing}
 use Rattle.walks.proofs.Loop.{relaxing_done}
 use Rattle.search.specs.Grounds.{net_of, settings_of}
 use Rattle.search.specs.Labels.{Fine, label_in, plain}
-use Rattle.search.specs.Queues.{edge_in, in_queue}
+use Rattle.search.specs.Queues.{in_queue}
 use Rattle.search.specs.Stages.{Working}
-use Rattle.search.specs.declared.queue.QueueSlot.{QueueSlot}
 use Rattle.search.proofs.Slots.{filled_within}
 use Rattle.search.proofs.Takes.{drawn_left, relaxing_left, working_left}
 use Rattle.search.proofs.settle.settle.Goals as goal

@@ -1,9 +1,8 @@
-use Rattle.std.proofs.Common.{◌≡◌, ℕ, ◌+◌, ◌-◌, ◌<◌, ◌≤◌, List, length, get_or, set, sym, refl, ap, ◌∙◌, subst, subst₂, arith}
+use Rattle.std.proofs.Common.{ℕ, ◌+◌, ◌-◌, ◌≤◌, length, get_or, set, sym, refl, ap, subst, subst₂, arith}
 use Rattle.std.proofs.lemmas.List.{length-set}
-use Rattle.plan.specs.Plans.{edge_at, no_row, plan_of}
+use Rattle.plan.specs.Plans.{no_row, plan_of}
 use Rattle.search.specs.Grounds.{net_of}
 use Rattle.search.specs.Labels.{label_in, plain}
-use Rattle.search.specs.declared.label.Label.{Label}
 use Rattle.search.proofs.Traces.{Tracing, charge_fits, long_fits, previous_drawn, tracing_again, tracing_done, tracing_start, trail_count, trail_plain}
 use Rattle.search.proofs.trace.trace.Goals as goal
 
