@@ -20,7 +20,8 @@
  *
  *   255   no class: a bearing is above 359, or the limits are not in order
  *
- * Link with target/staticlib/libturns.a, which `rt staticlib turns` writes.
+ * Link with target/staticlib/libturns.a, which examples/editor/run.sh proves
+ * and writes.
  */
 #ifndef TURNS_H
 #define TURNS_H

@@ -6,7 +6,7 @@
 --   plus a b     the row that has at each place the sum of the two (what one row lacks counts as 0)
 --   zeros n      the row of n places that are all 0
 -- Assumes nothing.
-use Rattle.std.specs.Prelude.{◌≡◌, ℕ, zero, suc, ◌+◌, ◌<◌, ◌⊎◌, List, [], ◌∷◌, replicate}
+use Rattle.std.specs.Prelude.{◌≡◌, ℕ, ◌+◌, ◌<◌, ◌⊎◌, List, [], ◌∷◌, replicate}
 
 abbrev pub Row : Type 0
 Row = List ℕ

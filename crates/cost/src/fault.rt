@@ -1,9 +1,7 @@
 // What the making of a cost refuses.
-ghost use Rattle.cost.specs.Faults.{cost_refusal};
-ghost use Rattle.std.specs.Prelude.{◌≡◌, Decides};
-ghost use Rattle.std.specs.Cmp.Rules.{comparing};
-ghost use Rattle.std.proofs.Common.{rules};
-ghost use Rattle.std.specs.Cmp as Keys;
+ghost use Rattle.cost.specs.Faults.{cost_refusal, same_fault, same_fault_decides};
+ghost use Rattle.std.specs.Prelude.{◌≡◌};
+ghost use Rattle.std.specs.Cmp.{decided, partial_equiv_from_equiv};
 
 use refusal::{Layer, Refusal};
 
@@ -31,9 +29,9 @@ impl CostFault {
 
 /// Faults are equal where their causes and details are.
 impl PartialEq for CostFault {
-    ghost equals = { λ x y r. Decides r (x ≡ y) };
+    ghost eq = { same_fault };
 
-    ghost laws = { Keys.partial_equiv_from_equiv (Prim.search (comparing, rules)) };
+    ghost laws = { partial_equiv_from_equiv (decided same_fault same_fault_decides) };
 
     fn eq(&self, other: &CostFault) -> bool {
         let CostFault::Weight(mine) = self;

@@ -9,8 +9,7 @@ use crate::turning::turn;
 /// 359 or the limits are unsound.
 ///
 /// `turn_class(90, 0, 20, 60, 120)` is 5.
-#[unsafe(no_mangle)]
-pub extern "C" fn turn_class(arriving: u32, leaving: u32, s: u32, b: u32, h: u32) -> u8
+pub fn turn_class(arriving: u32, leaving: u32, s: u32, b: u32, h: u32) -> u8
     ensures value { result ≡ code_answer arriving leaving s b h }
 {
     let Ok(limits) = Sectors::new(s, b, h) else {
