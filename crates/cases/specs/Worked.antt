@@ -7,7 +7,7 @@
 --   fork l          the edge 0 arrives on 90 where the edges 1 and 2 leave on 0 and on 30, under the limits l
 --   Worked          the table
 -- Assumes nothing.
-use Rattle.std.specs.Prelude.{◌≡◌, ℕ, List, [], ◌∷◌, ℤ, pos, negsuc}
+use Rattle.std.specs.Prelude.{◌≡◌, ℕ, List, [], ◌∷◌, pos, negsuc}
 use Rattle.turns.specs.Sectors.{Limits}
 use Rattle.turns.specs.Turns.{angle, class_of}
 use Rattle.turns.specs.declared.class.Class.TheVariants.{Straight, BearRight, SharpRight, Left}
@@ -16,7 +16,7 @@ use Rattle.plan.specs.Studies.{row_of}
 use Rattle.plan.specs.declared.row.EdgeRow.{EdgeRow}
 use Rattle.rules.specs.Ambiguity.{ambiguity_charge}
 use Rattle.rules.specs.Slots.{slots_charge}
-use Rattle.cost.specs.Weights.{Weights, weighted_amount}
+use Rattle.cost.specs.Weights.{weighted_amount}
 
 abbrev pub limits : ℕ → ℕ → ℕ → Limits
 limits s b h = record { s = s; b = b; h = h }

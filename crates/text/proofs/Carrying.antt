@@ -1,9 +1,9 @@
 -- The calls of a line: their answers, and the rows that they leave.
-use Rattle.std.proofs.Common.{◌≡◌, ℕ, ◌+◌, List, [], ◌∷◌, ◌++◌, length, get_or, drop, Some, None, Ok, Err, Option, Result, sym, refl, ap, ◌∙◌, arith}
+use Rattle.std.proofs.Common.{◌≡◌, ℕ, ◌+◌, List, length, drop, Some, None, Option, Result, sym, ap, ◌∙◌}
 use Rattle.std.proofs.lemmas.List.{drop-drop, length_push, length-set}
 use Rattle.turns.specs.declared.fault.PlanFault.{PlanFault}
 use Rattle.plan.specs.Plans.{plan_of, rows_of, spare_of}
-use Rattle.plan.specs.Studies.{answered, changed, draw_fault, drawn_fault, length_fault, measured, next, otherwise, row_of, spare_left, study_of, unless}
+use Rattle.plan.specs.Studies.{answered, changed, draw_fault, drawn_fault, length_fault, next, otherwise, row_of, spare_left, study_of, unless}
 use Rattle.plan.specs.declared.change.Change.TheVariants.{Draw, Measure}
 use Rattle.plan.specs.declared.drawing.Drawing.{Drawing}
 use Rattle.plan.specs.declared.row.EdgeRow.{EdgeRow}

@@ -1,5 +1,5 @@
 -- A line is read in one way only, and so a log has one text of replies.
-use Rattle.std.proofs.Common.{◌≡◌, ℕ, ◌+◌, ◌-◌, ◌<◌, ◌≤◌, Bool, true, false, not, ◌&&◌, eqb, ◌⊎◌, List, [], ◌∷◌, ◌++◌, length, get_or, take, decimal, Option, sym, refl, ap, ◌∙◌, subst, inl, inr, arith}
+use Rattle.std.proofs.Common.{◌≡◌, ℕ, ◌+◌, ◌-◌, ◌<◌, ◌≤◌, Bool, true, not, ◌&&◌, eqb, ◌⊎◌, List, [], ◌∷◌, ◌++◌, length, get_or, take, decimal, Option, sym, refl, ap, ◌∙◌, subst, inl, inr, arith}
 use Rattle.std.specs.Str.Parse.{digits_value}
 use Rattle.std.specs.List.{AllByRecursion as All}
 use Rattle.std.proofs.lemmas.Fmt.{decimal_is_IsNumeral}
@@ -10,7 +10,7 @@ use Rattle.text.specs.Kinds.{kind_of, word_of}
 use Rattle.text.specs.Lines.{Agree, LowestWrong, Misread, Sound, Spelled, fields_of, written}
 use Rattle.text.specs.Numbers.{Small}
 use Rattle.text.specs.Pieces.{Fields, Lacks, joined, split}
-use Rattle.text.specs.Plays.{Answered, Obeyed, Played, Rejected, answer_to, carried}
+use Rattle.text.specs.Plays.{Answered, Played, answer_to, carried}
 use Rattle.text.specs.Faults.{by_text}
 use Rattle.text.specs.Replies.{reply_text}
 use Rattle.text.specs.declared.kind.Kind.{Kind}

@@ -13,7 +13,7 @@
 --   newly l rows sheet      the study of a new drawing: the limits l, so many rows, no edges, and the sheet as it is
 --   Ended, Stopped          the same, with what the lists hold then, where the rows were rows₀
 -- Assumes nothing.
-use Rattle.std.specs.Prelude.{◌≡◌, ℕ, ◌+◌, List, [], ◌∷◌, ◌++◌, length, drop, Some, None, Ok, Err, Option, Result}
+use Rattle.std.specs.Prelude.{◌≡◌, ℕ, ◌+◌, List, [], ◌++◌, length, drop, Some, Ok, Err, Option, Result}
 use Rattle.turns.specs.Sectors.{Limits, limits_of}
 use Rattle.turns.specs.declared.sectors.Sectors.{Sectors}
 use Rattle.plan.specs.Plans.{plan_of, spare_of}

@@ -42,5 +42,5 @@ pub returns : goal.returns
 returns c =
     let f = c.args.field.now in
     record {
-      cases = spelt_value f c.loop-digit.digit-index c.loop-digit.value c.loop-digit.invariant.0 c.loop-digit-test.false c.loop-digit.invariant.1 (omega (arith, eqb-false (length f) 0 (sym c.if-is_empty.ensures))) c.if-field-gt-MOST-DIGITS.false (λ e. omega arith);
+      cases = spelt_value f c.loop-digit.digit-index c.loop-digit.value c.loop-digit.invariant.0 c.loop-digit-test.false c.loop-digit.invariant.1 (omega (arith, eqb-false (length f) 0 (sym c.if-is_empty.ensures))) c.if-field-gt-MOST_DIGITS.false (λ e. omega arith);
     }

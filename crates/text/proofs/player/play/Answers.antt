@@ -15,19 +15,19 @@ returns-in-None c =
       long = λ long. absurd (omega arith);
     }
 
-pub returns-in_ok-play_drawn : goal.returns-in_ok-play_drawn
-returns-in_ok-play_drawn c =
-    let all = plays_all c.args.rows.now (length c.args.sheet.now) (lines_of c.args.log.now) c.new-lines.result (string_bytes c.new-text.result) c.new-lines.ensures.left c.new-lines.ensures.taken c.new-text.ensures.bytes (limits_of c.in-Some.limits) c.clear.new.sheet c.clear.ensures.after c.play_opening.new.lines (string_bytes c.play_opening.new.text) c.play_drawn.new.rows c.play_drawn.new.sheet (MatchOption-at_some _ _ c.in-Some.limits c.in-Some.is (c.in_ok-play_opening.ensures.cases (length c.args.rows.now) (length c.args.sheet.now))) (string_bytes c.play_drawn.new.text) (c.in_ok-play_drawn.ensures.cases (length c.args.sheet.now)) in
+pub returns-in_ok-play_drawn-in-Some : goal.returns-in_ok-play_drawn-in-Some
+returns-in_ok-play_drawn-in-Some c =
+    let all = plays_all c.args.rows.now (length c.args.sheet.now) (lines_of c.args.log.now) c.new-lines.result (string_bytes c.new-text.result) c.new-lines.ensures.left c.new-lines.ensures.taken c.new-text.ensures.bytes (limits_of c.in-Some.limits) c.clear.new.sheet c.clear.ensures.after c.play_opening.new.lines (string_bytes c.play_opening.new.text) c.play_drawn.new.rows c.play_drawn.new.sheet (MatchOption-at_some _ _ c.in-Some.limits c.in-Some.is (c.in_ok-play_opening.ensures.cases (length c.args.rows.now) (length c.args.sheet.now))) (string_bytes c.play_drawn.new.text) (c.in_ok-play_drawn-in-Some.ensures.cases (length c.args.sheet.now)) in
     record {
       played = λ short. all;
       only = λ short. plays_only _ _ _ _ _ _ all;
       long = λ long. absurd (omega arith);
     }
 
-pub returns-in_err-play_drawn : goal.returns-in_err-play_drawn
-returns-in_err-play_drawn c =
+pub returns-in_err-play_drawn-in-Some : goal.returns-in_err-play_drawn-in-Some
+returns-in_err-play_drawn-in-Some c =
     record {
-      played = λ short. MatchResult-from_err c.from_residual-in_err-play_drawn.result _ _ c.from_residual-in_err-play_drawn.ensures.0 (λ e. plays_some c.args.rows.now (length c.args.sheet.now) (lines_of c.args.log.now) c.new-lines.result (string_bytes c.new-text.result) c.new-lines.ensures.left c.new-lines.ensures.taken c.new-text.ensures.bytes (limits_of c.in-Some.limits) c.clear.new.sheet c.clear.ensures.after c.play_opening.new.lines (string_bytes c.play_opening.new.text) c.play_drawn.new.rows c.play_drawn.new.sheet (MatchOption-at_some _ _ c.in-Some.limits c.in-Some.is (c.in_ok-play_opening.ensures.cases (length c.args.rows.now) (length c.args.sheet.now))) (c.in_err-play_drawn.ensures.cases (length c.args.sheet.now)));
-      only = λ short. IfOk-from_err c.from_residual-in_err-play_drawn.result _ c.from_residual-in_err-play_drawn.ensures.0;
+      played = λ short. MatchResult-from_err c.from_residual-in_err-play_drawn-in-Some.result _ _ c.from_residual-in_err-play_drawn-in-Some.ensures.0 (λ e. plays_some c.args.rows.now (length c.args.sheet.now) (lines_of c.args.log.now) c.new-lines.result (string_bytes c.new-text.result) c.new-lines.ensures.left c.new-lines.ensures.taken c.new-text.ensures.bytes (limits_of c.in-Some.limits) c.clear.new.sheet c.clear.ensures.after c.play_opening.new.lines (string_bytes c.play_opening.new.text) c.play_drawn.new.rows c.play_drawn.new.sheet (MatchOption-at_some _ _ c.in-Some.limits c.in-Some.is (c.in_ok-play_opening.ensures.cases (length c.args.rows.now) (length c.args.sheet.now))) (c.in_err-play_drawn-in-Some.ensures.cases (length c.args.sheet.now)));
+      only = λ short. IfOk-from_err c.from_residual-in_err-play_drawn-in-Some.result _ c.from_residual-in_err-play_drawn-in-Some.ensures.0;
       long = λ long. absurd (omega arith);
     }
