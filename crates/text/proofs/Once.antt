@@ -1,7 +1,7 @@
 -- A line is read in one way only, and so a log has one text of replies.
 use Rattle.std.proofs.Common.{◌≡◌, ℕ, ◌+◌, ◌-◌, ◌<◌, ◌≤◌, Bool, true, not, ◌&&◌, eqb, ◌⊎◌, List, [], ◌∷◌, ◌++◌, length, get_or, take, decimal, Option, sym, refl, ap, ◌∙◌, subst, inl, inr, arith}
 use Rattle.std.specs.Str.Parse.{digits_value}
-use Rattle.std.specs.List.{AllByRecursion as All}
+use Rattle.std.specs.List.{AllByRecursion}
 use Rattle.std.proofs.lemmas.Fmt.{decimal_is_IsNumeral}
 use Rattle.std.proofs.lemmas.List.{take-take}
 use Rattle.std.proofs.lemmas.Bool.{and_parts, cases_order, not-true}
@@ -24,7 +24,7 @@ use Rattle.text.proofs.Reading.{same_kind}
 use Rattle.text.proofs.Spelling.{number_digits}
 
 -- bytes are split into fields in one way
-split-joined : (fs : List (List ℕ)) → 0 < length fs → All (Lacks 9) fs → split (joined fs) ≡ fs
+split-joined : (fs : List (List ℕ)) → 0 < length fs → AllByRecursion (Lacks 9) fs → split (joined fs) ≡ fs
 split-joined [] some clean = absurd (omega arith)
 split-joined (f ∷ []) some clean = pieces_one 9 f clean.0
 split-joined (f ∷ g ∷ fs) some clean =

@@ -1,6 +1,6 @@
 -- Bytes that a mark parts.
 use Rattle.std.proofs.Common.{◌≡◌, ℕ, zero, suc, ◌+◌, ◌-◌, ◌<◌, ◌≤◌, true, false, eqb, ◌⊎◌, List, [], ◌∷◌, ◌++◌, length, get_or, take, drop, sym, refl, ap, ◌∙◌, inl, inr, arith}
-use Rattle.std.specs.List.{AllByRecursion as All}
+use Rattle.std.specs.List.{AllByRecursion}
 use Rattle.std.proofs.lemmas.List.{get_or-take, length-append, length-take, take-append-drop, take_rest, drop_more}
 use Rattle.std.proofs.lemmas.Bool.{cases_Bool, ne_eqb, eq-eqb, eqb-false, eqb-true}
 use Rattle.text.specs.Pieces.{Alone, Fields, Lacks, Leads, grown, joined, lines_of, pieces, split}
@@ -76,7 +76,7 @@ pub lacks_more : (m b : ℕ) (p : List ℕ) → eqb b m ≡ false → Lacks m p 
 lacks_more m b p e h zero below is = eqb-false b m e is
 lacks_more m b p e h (suc k) below is = h k (omega arith) is
 
-lacks_grown : (m b : ℕ) (ps : List (List ℕ)) → eqb b m ≡ false → All (Lacks m) ps → All (Lacks m) (grown b ps)
+lacks_grown : (m b : ℕ) (ps : List (List ℕ)) → eqb b m ≡ false → AllByRecursion (Lacks m) ps → AllByRecursion (Lacks m) (grown b ps)
 lacks_grown m b [] e h = (lacks_more m b [] e (λ k below. absurd (omega arith)), tt)
 lacks_grown m b (p ∷ ps) e h = (lacks_more m b p e h.0, h.1)
 

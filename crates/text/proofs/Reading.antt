@@ -1,6 +1,6 @@
 -- Lines and their fields: which field of a line is the first wrong one.
 use Rattle.std.proofs.Common.{◌≡◌, ℕ, zero, suc, ◌-◌, Bool, true, false, cond, not, eqb, List, [], ◌∷◌, map, length, get_or, drop, replicate, Ok, Err, codes, decimal, Result, sym, refl, ap, ◌∙◌, subst, arith}
-use Rattle.std.specs.List.{AllByRecursion as All}
+use Rattle.std.specs.List.{AllByRecursion}
 use Rattle.std.proofs.lemmas.Bool.{both_ways}
 use Rattle.text.specs.Kinds.{LineOf, NoLine, ReadAs, is_opening, kind_of, shape, word_of}
 use Rattle.text.specs.Lines.{Agree, LowestWrong, Sound, Spelled, fields_of, is_sectors}
@@ -101,7 +101,7 @@ pub same_kind : (κ ι : Kind) → word_of κ ≡ word_of ι → κ ≡ ι
 same_kind κ ι e = sym (kind_back κ) ∙ (ap (λ (w : List ℕ). kind_by (get_or w 0 0)) e ∙ kind_back ι)
 
 -- fields that fit are numbers
-fits_read : (n : ℕ) (gs : List (List ℕ)) → Fits (replicate n Number) gs → (ns : List ℕ) × (length ns ≡ n) × All Small ns × (gs ≡ map decimal ns)
+fits_read : (n : ℕ) (gs : List (List ℕ)) → Fits (replicate n Number) gs → (ns : List ℕ) × (length ns ≡ n) × AllByRecursion Small ns × (gs ≡ map decimal ns)
 fits_read zero [] t = ([], refl, tt, refl)
 fits_read zero (g ∷ gs) t = absurd t
 fits_read (suc n) [] t = absurd t

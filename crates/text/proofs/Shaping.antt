@@ -1,13 +1,13 @@
 -- Fields against what a line asks for.
 use Rattle.std.proofs.Common.{◌≡◌, ℕ, zero, suc, ◌+◌, ◌-◌, ◌<◌, ◌≤◌, List, [], ◌∷◌, ◌++◌, map, length, get_or, take, drop, set, replicate, decimal, sym, refl, ap, ◌∙◌, append_assoc, append-nil, arith}
-use Rattle.std.specs.List.{AllByRecursion as All}
+use Rattle.std.specs.List.{AllByRecursion}
 use Rattle.std.proofs.ByRecursion.{All-push}
 use Rattle.std.proofs.lemmas.List.{drop_more, length-set, length-take-le, map_push, take_all, take_more_set}
 use Rattle.text.specs.Numbers.{Number, Numbers, Small, from}
 use Rattle.text.specs.Shapes.{Misses, MissesFrom, Unlike}
 
 -- numbers in front of the first wrong field
-pub misses_more : (ns : List ℕ) (N m K k : ℕ) (rest : List (List ℕ)) → N ≡ length ns + m → K ≡ length ns + k → All Small ns → Misses (replicate m Number) rest k → Misses (replicate N Number) (map decimal ns ++ rest) K
+pub misses_more : (ns : List ℕ) (N m K k : ℕ) (rest : List (List ℕ)) → N ≡ length ns + m → K ≡ length ns + k → AllByRecursion Small ns → Misses (replicate m Number) rest k → Misses (replicate N Number) (map decimal ns ++ rest) K
 misses_more [] N m K k rest e d all h =
     let same : N ≡ m = omega arith in
     let here : K ≡ k = omega arith in
@@ -30,7 +30,7 @@ pub record ReadTo (N first : ℕ) (all left : List (List ℕ)) (found : List ℕ
   pub here : place ≡ first + i
   pub size : length found ≡ N
   pub front : all ≡ map decimal (take i found) ++ left
-  pub small : All Small (take i found)
+  pub small : AllByRecursion Small (take i found)
 
 module _ (N first : ℕ) (all left : List (List ℕ)) (found : List ℕ) (i place : ℕ) (h : ReadTo N first all left found i place) where
   read_size : i ≤ N → length (take i found) ≡ i

@@ -6,7 +6,7 @@
 --   Numbers n fs ns   the fields fs are the first n numbers of ns, each small and as it is printed
 -- Assumes nothing.
 use Rattle.std.specs.Prelude.{◌≡◌, ℕ, zero, suc, ◌≤◌, List, [], ◌∷◌, map, decimal, slice_index}
-use Rattle.std.specs.List.{AllByRecursion as All}
+use Rattle.std.specs.List.{AllByRecursion}
 
 abbrev pub Small : ℕ → Type 0
 Small n = n ≤ 999999
@@ -22,4 +22,4 @@ from i zero xs = []
 from i (suc n) xs = slice_index xs i ∷ from (suc i) n xs
 
 abbrev pub Numbers : ℕ → List (List ℕ) → List ℕ → Type 0
-Numbers n fs ns = (fs ≡ map decimal (from 0 n ns)) × All Small (from 0 n ns)
+Numbers n fs ns = (fs ≡ map decimal (from 0 n ns)) × AllByRecursion Small (from 0 n ns)

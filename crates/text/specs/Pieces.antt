@@ -11,7 +11,7 @@
 --   Fields bytes fs                the line bytes is the fields fs, of which there is one at least and none has a tab
 -- Assumes nothing.
 use Rattle.std.specs.Prelude.{◌≡◌, ℕ, ◌<◌, cond, List, [], ◌∷◌, ◌++◌, length, ◌==◌, ◌≢◌, slice_index}
-use Rattle.std.specs.List.{AllByRecursion as All}
+use Rattle.std.specs.List.{AllByRecursion}
 
 abbrev pub Lacks : ℕ → List ℕ → Type 0
 Lacks mark bytes = (k : ℕ) → k < length bytes → slice_index bytes k ≢ mark
@@ -43,5 +43,5 @@ Leads mark bytes piece after = ((last : List (List ℕ)) → pieces mark last by
 
 pub record Fields (bytes : List ℕ) (fs : List (List ℕ)) : Type 0 where
   pub some : 0 < length fs
-  pub clean : All (Lacks 9) fs
+  pub clean : AllByRecursion (Lacks 9) fs
   pub whole : bytes ≡ joined fs
