@@ -6,7 +6,7 @@ ghost use Rattle.plan.specs.Studies.{begun, study_of};
 ghost use Rattle.plan.specs.declared.row.EdgeRow.{EdgeRow};
 ghost use Rattle.search.specs.Histories.{after_calls};
 ghost use Rattle.search.specs.Questions.{asked};
-ghost use Rattle.history.specs.Replays.{Over, Replayed, calls_of, drawn_over};
+ghost use Rattle.history.specs.Replays.{Over, Replayed, ReplayedByRun, Run, calls_of, drawn_over};
 
 use crate::apply::{apply, clear};
 use crate::call::Call;
@@ -20,6 +20,7 @@ use turns::Sectors;
 /// and then asks for the simplest walk from `first` to `last`.
 ///
 /// Nothing is asked of the list: it may be of any length, in any order, with refused calls among its own. The answer is that of the plain study after it.
+/// The labels and the route list then hold what the questions wrote over what was brought: those of the list in its order, and then the last one.
 pub fn replay<R: TurnRule, C: CostKind>(
     limits: Sectors,
     rows: &mut [EdgeRow],
@@ -34,6 +35,7 @@ pub fn replay<R: TurnRule, C: CostKind>(
     route: &mut [u16],
 ) -> Result<Answer<C>, QuestionFault>
     ensures answers { Replayed C.CostKind (C.CostKind.settings cost.now) (after_calls (begun (limits_of limits) (length rows.old) (length sheet.old)) (calls_of R.TurnRule C.CostKind (length labels.old) (length queue.old) (length route.old) calls.now)) (asked R.TurnRule C.CostKind rule.now (C.CostKind.settings cost.now) first last (length labels.old) (length queue.old) (length route.old)) labels.old labels.new route.old route.new result }
+    ensures run { ReplayedByRun R.TurnRule C.CostKind (C.CostKind.settings cost.now) (begun (limits_of limits) (length rows.old) (length sheet.old)) calls.now (asked R.TurnRule C.CostKind rule.now (C.CostKind.settings cost.now) first last (length labels.old) (length queue.old) (length route.old)) labels.old labels.new route.old route.new result }
     ensures rows { rows.new ≡ drawn_over rows.old (after_calls (begun (limits_of limits) (length rows.old) (length sheet.old)) (calls_of R.TurnRule C.CostKind (length labels.old) (length queue.old) (length route.old) calls.now)).edges }
     ensures sheet { sheet.new ≡ (after_calls (begun (limits_of limits) (length rows.old) (length sheet.old)) (calls_of R.TurnRule C.CostKind (length labels.old) (length queue.old) (length route.old) calls.now)).sheet }
 {
@@ -47,7 +49,7 @@ pub fn replay<R: TurnRule, C: CostKind>(
     answer
 }
 
-// Makes every call of the list. What the calls answer is let go.
+// Makes every call of the list. What the calls answer is let go; what the questions wrote into the lists stays there.
 fn make_calls<R: TurnRule, C: CostKind>(
     drawing: &mut Drawing<'_>,
     sheet: &mut [u8],
@@ -59,6 +61,7 @@ fn make_calls<R: TurnRule, C: CostKind>(
     ensures after { study_of drawing.new sheet.new ≡ after_calls (study_of drawing.old sheet.old) (calls_of R.TurnRule C.CostKind (length labels.old) (length queue.old) (length route.old) calls.now) }
     ensures lender { lender_of drawing.new ≡ lender_of drawing.old }
     ensures rows { (all : List EdgeRow) → Over all drawing.old → Over all drawing.new }
+    ensures run { Run R.TurnRule C.CostKind (length queue.old) (study_of drawing.old sheet.old) calls.now labels.old labels.new route.old route.new }
 {
     for call in calls {
         match call {

@@ -3,6 +3,7 @@
 
 mod choice;
 mod telling;
+mod worded;
 mod workspace;
 
 pub use choice::{KindWord, RuleWord};

@@ -2,11 +2,11 @@
 ghost use Rattle.std.specs.Prelude.{length};
 ghost use Rattle.plan.specs.Studies.{study_of};
 ghost use Rattle.routing.specs.Choices.{question_of};
-ghost use Rattle.routing.specs.Lists.{labels_for};
+ghost use Rattle.routing.specs.Lists.{Worked, labels_for};
 ghost use Rattle.routing.specs.Tellings.{Tells};
 
 use crate::choice::{KindWord, RuleWord};
-use crate::telling::{Found, tell_by};
+use crate::telling::{Asked, Found, tell};
 use cost::{Charge, Distance, Ranked, Tally, Weighted};
 use plan::Drawing;
 use search::{Label, QuestionFault, QueueSlot};
@@ -34,52 +34,28 @@ pub fn find_route(
     route: &mut [u16],
 ) -> Result<Found, QuestionFault>
     ensures cases { Tells (study_of drawing.now sheet.now) (question_of rule kind first last (labels_for kind work.old) (length queue.old) (length route.old)) route.old route.new result }
+    ensures labels { Worked kind (study_of drawing.now sheet.now) (question_of rule kind first last (labels_for kind work.old) (length queue.old) (length route.old)) work.old work.new }
 {
+    let asked = Asked {
+        drawing,
+        sheet,
+        rule,
+        first,
+        last,
+    };
     match kind {
-        KindWord::Distance => tell_by(
-            drawing,
-            sheet,
-            rule,
-            &Distance::new(),
-            first,
-            last,
-            work.distance,
-            queue,
-            route,
-        ),
+        KindWord::Distance => tell(asked, &Distance::new(), work.distance, queue, route),
         KindWord::Ranked => {
             let cost = Ranked::new(Charge::new(), Distance::new());
-            tell_by(
-                drawing,
-                sheet,
-                rule,
-                &cost,
-                first,
-                last,
-                work.ranked,
-                queue,
-                route,
-            )
+            tell(asked, &cost, work.ranked, queue, route)
         }
         KindWord::Weighted => match Weighted::new(1, 6) {
-            Ok(cost) => tell_by(
-                drawing,
-                sheet,
-                rule,
-                &cost,
-                first,
-                last,
-                work.weighted,
-                queue,
-                route,
-            ),
+            Ok(cost) => tell(asked, &cost, work.weighted, queue, route),
             Err(_) => unreachable(),
         },
         KindWord::Tally => {
             let cost = Ranked::new(Tally::new(), Distance::new());
-            tell_by(
-                drawing, sheet, rule, &cost, first, last, work.tally, queue, route,
-            )
+            tell(asked, &cost, work.tally, queue, route)
         }
     }
 }

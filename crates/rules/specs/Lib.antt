@@ -2,6 +2,5 @@ pub mod Ambiguity
 pub mod Charges
 pub mod Slots
 pub mod Turns
+pub mod Bounds
 pub mod Counts
-pub mod AmbiguityRuleLemmas
-pub mod SlotsRuleLemmas

@@ -1,10 +1,7 @@
 // The rule that counts how many other steps sound the same when they are explained.
 ghost use Rattle.rules.specs.Ambiguity.{ambiguity_charge};
-ghost use Rattle.std.specs.Prelude.{◌≤◌};
-ghost use Rattle.std.proofs.Common.{arith, rules};
-ghost use Rattle.std.proofs.lemmas.Bool.{cond_both};
-ghost use Rattle.plan.specs.Plans.{edge_at, steps, step_class};
-ghost use Rattle.rules.specs.AmbiguityRuleLemmas.{others_le};
+ghost use Rattle.rules.specs.Bounds.{ambiguity_bound};
+ghost use Rattle.std.proofs.Common.{rules};
 
 use crate::others::other_steps;
 use crate::rule::TurnRule;
@@ -21,10 +18,7 @@ impl TurnRule for Ambiguity {
 
     ghost most = { 15 };
 
-    ghost bounded = { λ rule p e f s.
-        cond_both (steps p e f) _ 0 (λ v. v ≤ 15)
-        (λ h. others_le p e f (step_class p e f) (s.narrow (edge_at p e).end) h)
-        (λ _. omega arith) };
+    ghost bounded = { λ rule p e f s. ambiguity_bound p e f s };
 
     ghost small = { Prim.search rules };
 

@@ -1,12 +1,10 @@
 // The rule that weighs a step by the slots of its instruction.
-ghost use Rattle.std.specs.Prelude.{◌≡◌, ◌≤◌, true, false};
-ghost use Rattle.plan.specs.Plans.{plan_of, steps, edge_at};
+ghost use Rattle.std.specs.Prelude.{◌≡◌, true, false};
+ghost use Rattle.plan.specs.Plans.{plan_of, steps};
 ghost use Rattle.rules.specs.Charges.{straight};
-ghost use Rattle.rules.specs.Slots.{slots_charge, way_on};
-ghost use Rattle.std.proofs.Common.{arith, rules};
-ghost use Rattle.plan.specs.Plans;
-ghost use Rattle.std.proofs.lemmas.Bool.{cond_both};
-ghost use Rattle.rules.specs.SlotsRuleLemmas.{slots_at_le};
+ghost use Rattle.rules.specs.Slots.{slots_charge};
+ghost use Rattle.rules.specs.Bounds.{slots_bound};
+ghost use Rattle.std.proofs.Common.{rules};
 
 use crate::others::other_steps;
 use crate::rule::TurnRule;
@@ -30,10 +28,7 @@ impl TurnRule for Slots {
 
     ghost most = { 21 };
 
-    ghost bounded = { λ rule p e f s.
-        cond_both (steps p e f) _ 0 (λ v. v ≤ 21)
-        (λ _. slots_at_le (straight p e f) (way_on p e) (Plans.degree p (edge_at p e).end) (s.narrow (edge_at p e).end))
-        (λ _. omega arith) };
+    ghost bounded = { λ rule p e f s. slots_bound p e f s };
 
     ghost small = { Prim.search rules };
 

@@ -1,10 +1,7 @@
 // The rule that counts turns.
 ghost use Rattle.rules.specs.Turns.{turns_charge};
-ghost use Rattle.std.specs.Prelude.{◌≤◌};
-ghost use Rattle.std.proofs.Common.{arith, rules};
-ghost use Rattle.plan.specs.Plans.{steps};
-ghost use Rattle.std.proofs.lemmas.Bool.{cond_both};
-ghost use Rattle.rules.specs.Charges.{straight};
+ghost use Rattle.rules.specs.Bounds.{turns_bound};
+ghost use Rattle.std.proofs.Common.{rules};
 
 use crate::rule::TurnRule;
 use plan::Drawing;
@@ -21,10 +18,7 @@ impl TurnRule for Turns {
 
     ghost most = { 1 };
 
-    ghost bounded = { λ rule p e f s.
-        cond_both (steps p e f) _ 0 (λ v. v ≤ 1)
-        (λ _. cond_both (straight p e f) 0 1 (λ v. v ≤ 1) (λ _. omega arith) (λ _. omega arith))
-        (λ _. omega arith) };
+    ghost bounded = { λ rule p e f s. turns_bound p e f };
 
     ghost small = { Prim.search rules };
 

@@ -15,9 +15,11 @@ returns g c =
     let begins : study_of c.new-drawing.result c.clear.new.sheet ≡ start = λ i. record { limits = c.new-drawing.ensures.limits i; rows = c.new-drawing.ensures.rows i; edges = c.new-drawing.ensures.edges i; sheet = c.clear.ensures.after i } in
     let same : study_of d c.make_calls.new.sheet ≡ after_calls start h = c.make_calls.ensures.after ∙ ap (λ s. after_calls s h) begins in
     let whole : Over c.args.rows.now c.new-drawing.result = c.new-drawing.ensures.spare ∙ ap (λ edges. drop (length edges) c.args.rows.now) (sym c.new-drawing.ensures.edges) in
+    let told = replayed g.R.TurnRule g.C.CostKind c.args.rule.now (g.C.CostKind.settings c.args.cost.now) c.args.first c.args.last c.args.labels.now c.make_calls.new.labels c.ask-answer.new.labels c.args.route.now c.make_calls.new.route c.ask-answer.new.route (length c.args.queue.now) (length c.make_calls.new.queue) (study_of d c.make_calls.new.sheet) (study_of c.new-drawing.result c.clear.new.sheet) start c.args.calls.now c.ask-answer.result
+    c.make_calls.auto.labels c.make_calls.auto.route c.make_calls.auto.queue begins same c.make_calls.ensures.run c.ask-answer.ensures.answers c.ask-answer.ensures.agrees in
     record {
-      answers = replayed g.R.TurnRule g.C.CostKind c.args.rule.now (g.C.CostKind.settings c.args.cost.now) c.args.first c.args.last c.args.labels.now c.make_calls.new.labels c.ask-answer.new.labels c.args.route.now c.make_calls.new.route c.ask-answer.new.route (length c.args.queue.now) (length c.make_calls.new.queue) (study_of d c.make_calls.new.sheet) (after_calls start h) c.ask-answer.result
-          c.make_calls.auto.labels c.make_calls.auto.route c.make_calls.auto.queue same c.ask-answer.ensures.answers c.ask-answer.ensures.agrees;
+      answers = told.replayed;
+      run = told;
       rows = rows_back c.args.rows.now _ d (after_calls start h).edges (search rules) (c.make_calls.ensures.rows c.args.rows.now whole) (ap (λ (s : Study). s.edges) same);
       sheet = ap (λ (s : Study). s.sheet) same;
     }

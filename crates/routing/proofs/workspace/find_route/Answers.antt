@@ -1,11 +1,33 @@
-use Rattle.std.proofs.Common.{length, sym, subst}
+use Rattle.std.proofs.Common.{length, refl, subst}
+use Rattle.cost.specs.Weights.{Weights, weighted_amount}
+use Rattle.cost.specs.contracts.weighted.WeightedCostKind.TheImpl.{ghosts as weighted_by}
 use Rattle.plan.specs.Studies.{study_of}
-use Rattle.routing.specs.Choices.{question_of}
-use Rattle.routing.specs.Lists.{labels_for}
+use Rattle.routing.specs.Choices.{by_rule}
+use Rattle.routing.specs.Lists.{Leaves}
 use Rattle.routing.specs.Tellings.{Tells}
+use Rattle.routing.proofs.Wording.{tells_kind, worked_kind}
 use Rattle.routing.proofs.workspace.find_route.Goals as goal
+
+pub returns-in-Distance : goal.returns-in-Distance
+returns-in-Distance c = record {
+  cases = tells_kind (study_of c.args.drawing.now c.args.sheet.now) c.args.rule c.in-Distance.is c.args.first c.args.last (length c.args.queue.now) (length c.args.route.now) c.args.work.now c.args.route.now c.tell.new.route c.tell.result c.tell.ensures.cases;
+  labels = worked_kind (study_of c.args.drawing.now c.args.sheet.now) c.args.rule c.in-Distance.is c.args.first c.args.last (length c.args.queue.now) (length c.args.route.now) c.args.work.now _ (c.tell.ensures.labels, refl, refl, refl);
+}
+
+pub returns-in-Ranked : goal.returns-in-Ranked
+returns-in-Ranked c = record {
+  cases = tells_kind (study_of c.args.drawing.now c.args.sheet.now) c.args.rule c.in-Ranked.is c.args.first c.args.last (length c.args.queue.now) (length c.args.route.now) c.args.work.now c.args.route.now c.tell-in-Ranked.new.route c.tell-in-Ranked.result c.tell-in-Ranked.ensures.cases;
+  labels = worked_kind (study_of c.args.drawing.now c.args.sheet.now) c.args.rule c.in-Ranked.is c.args.first c.args.last (length c.args.queue.now) (length c.args.route.now) c.args.work.now _ (c.tell-in-Ranked.ensures.labels, refl, refl, refl);
+}
 
 pub returns-in-Tally : goal.returns-in-Tally
 returns-in-Tally c = record {
-  cases = subst (λ k. Tells (study_of c.args.drawing.now c.args.sheet.now) (question_of c.args.rule k c.args.first c.args.last (labels_for k c.args.work.now) (length c.args.queue.now) (length c.args.route.now)) c.args.route.now c.tell_by-in-Tally.new.route c.tell_by-in-Tally.result) (sym c.in-Tally.is) c.tell_by-in-Tally.ensures.cases;
+  cases = tells_kind (study_of c.args.drawing.now c.args.sheet.now) c.args.rule c.in-Tally.is c.args.first c.args.last (length c.args.queue.now) (length c.args.route.now) c.args.work.now c.args.route.now c.tell-in-Tally.new.route c.tell-in-Tally.result c.tell-in-Tally.ensures.cases;
+  labels = worked_kind (study_of c.args.drawing.now c.args.sheet.now) c.args.rule c.in-Tally.is c.args.first c.args.last (length c.args.queue.now) (length c.args.route.now) c.args.work.now _ (c.tell-in-Tally.ensures.labels, refl, refl, refl);
+}
+
+pub returns-in-Ok : goal.returns-in-Ok
+returns-in-Ok c = record {
+  cases = tells_kind (study_of c.args.drawing.now c.args.sheet.now) c.args.rule c.in-Weighted.is c.args.first c.args.last (length c.args.queue.now) (length c.args.route.now) c.args.work.now c.args.route.now c.tell-in-Ok.new.route c.tell-in-Ok.result (subst (λ (σ : Weights). Tells (study_of c.args.drawing.now c.args.sheet.now) (by_rule c.args.rule 1 (weighted_amount σ) c.args.first c.args.last (length c.args.work.now.weighted.now) (length c.args.queue.now) (length c.args.route.now)) c.args.route.now c.tell-in-Ok.new.route c.tell-in-Ok.result) c.in-Ok.ensures.same c.tell-in-Ok.ensures.cases);
+  labels = worked_kind (study_of c.args.drawing.now c.args.sheet.now) c.args.rule c.in-Weighted.is c.args.first c.args.last (length c.args.queue.now) (length c.args.route.now) c.args.work.now _ (subst (λ (σ : Weights). Leaves weighted_by σ (study_of c.args.drawing.now c.args.sheet.now) (by_rule c.args.rule 1 (weighted_amount σ) c.args.first c.args.last (length c.args.work.now.weighted.now) (length c.args.queue.now) (length c.args.route.now)) c.args.work.now.weighted.now c.tell-in-Ok.new.labels) c.in-Ok.ensures.same c.tell-in-Ok.ensures.labels, refl, refl, refl);
 }
