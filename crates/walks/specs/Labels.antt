@@ -1,4 +1,4 @@
--- Labels: what a search keeps for each edge, and when a labelling is right.
+-- Labels: what is kept for each edge, and when a labelling is right.
 --
 -- Glossary
 --   Label                 the cost of a walk (its row), its number of edges and the edge before its last

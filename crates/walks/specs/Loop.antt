@@ -1,4 +1,4 @@
--- The loop of a label-setting search, over a labelling and a queue: what stays true while edges are taken from the queue and their steps are relaxed.
+-- The loop of label setting, over a labelling and a queue: what stays true while edges are taken from the queue and their steps are relaxed.
 --
 -- Glossary
 --   Queue                         for each edge, whether it is in the queue

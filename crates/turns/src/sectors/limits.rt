@@ -28,21 +28,21 @@ impl Sectors {
         })
     }
 
-    /// The greatest angle that is straight.
+    /// The largest angle that is straight.
     pub fn s(&self) -> u32
         ensures value { result ≡ (limits_of self.now).s }
     {
         u32::from(self.s)
     }
 
-    /// The greatest angle that bears right or left.
+    /// The largest angle that bears right or left.
     pub fn b(&self) -> u32
         ensures value { result ≡ (limits_of self.now).b }
     {
         u32::from(self.b)
     }
 
-    /// The greatest angle that is a right or a left and not sharp.
+    /// The largest angle that is a right or a left and not sharp.
     pub fn h(&self) -> u32
         ensures value { result ≡ (limits_of self.now).h }
     {
