@@ -1,7 +1,7 @@
 #!/bin/sh
 # Plays the same logs with the proved program and with a plain planner in C++, compares what they print byte for byte, and prints
 # how long each took at its best of five runs (RUNS=n for another number) and how many times as long the proved one took.
-# `rt check study` builds the proved program.
+# `rt run` in crates/study builds the proved program.
 set -eu
 
 here=$(cd "$(dirname "$0")" && pwd)
@@ -9,11 +9,11 @@ root=$(cd "$here/.." && pwd)
 cd "$root"
 
 runs=${RUNS:-5}
-study=target/bin/study
+study=crates/study/out/study
 planner=target/bench/planner
 
 if [ ! -x "$study" ]; then
-    echo "$study is not there: run rt check study first" >&2
+    echo "$study is not there: run rt run in crates/study first" >&2
     exit 1
 fi
 mkdir -p target/bench

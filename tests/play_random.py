@@ -3,7 +3,7 @@
 
     play_random.py [--seed N] [--count N] [--only N] [--save FILE] [program ...]
 
-The program is target/bin/study unless another is named, with its arguments; it
+The program is crates/study/out/study unless another is named, with its arguments; it
 gets each log on standard input, one start for each log. What it prints must be,
 byte for byte, what tests/reference.py prints. A program that is ended by a signal
 or needs more than a minute for a log counts as a difference too; its exit status
@@ -613,8 +613,8 @@ def main():
     parser.add_argument("--count", type=int, default=10_000)
     parser.add_argument("--only", type=int, help="play this log number alone and save it")
     parser.add_argument("--save", default="differing.log", help="file for the first differing log")
-    parser.add_argument("program", nargs="*", default=["target/bin/study"],
-                        help="the program and its arguments, target/bin/study unless given")
+    parser.add_argument("program", nargs="*", default=["crates/study/out/study"],
+                        help="the program and its arguments, crates/study/out/study unless given")
     options = parser.parse_args()
     program = options.program
 
