@@ -6,7 +6,7 @@ ghost use Rattle.plan.specs.Studies.{begun, study_of};
 ghost use Rattle.plan.specs.declared.row.EdgeRow.{EdgeRow as Row};
 ghost use Rattle.text.specs.Faults.{text_refusal};
 ghost use Rattle.text.specs.Pieces.{lines_of};
-ghost use Rattle.text.specs.Plays.{Answered, OnlyText, Plays, PlaysSome, numbered as numbered-as, too_long};
+ghost use Rattle.text.specs.Plays.{Answered, OnlyText, Plays, PlaysSome, numbered as numbered_as, too_long};
 ghost use Rattle.text.specs.Replies.{reply_text};
 ghost use Rattle.text.specs.Runs.{Ended, Ends, Over, Stopped, Stops, Went, moment, moment_over, newly};
 ghost use Rattle.text.specs.declared.reply.Reply.TheVariants.{Done, Refused};
@@ -136,7 +136,7 @@ fn answer_line(drawing: &mut Drawing<'_>, sheet: &mut [u8], bytes: &[u8], number
 
 // The reply to the line with this number: its answer, or its refusal with that number.
 fn numbered(answer: Result<Reply, TextFault>, line: u32) -> Reply
-    ensures value { result ≡ numbered-as answer line }
+    ensures value { result ≡ numbered_as answer line }
 {
     match answer {
         Ok(reply) => reply,

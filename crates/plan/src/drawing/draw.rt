@@ -1,5 +1,5 @@
 // Drawing an edge.
-ghost use Rattle.std.specs.Prelude.{◌≡◌, ℕ, List, length as length-of, drop, None};
+ghost use Rattle.std.specs.Prelude.{◌≡◌, ℕ, List, length as length_of, drop, None};
 ghost use Rattle.plan.specs.Plans.{lender_of, plan_of, rows_of, spare_of};
 ghost use Rattle.plan.specs.Studies.{answered, draw_fault, length_fault, neighbour_fault, next, put_last, room_fault, row_fault, row_of, spare_left, study_of};
 ghost use Rattle.plan.specs.declared.change.Change.TheVariants.{Draw};
@@ -27,7 +27,7 @@ impl Drawing<'_> {
         leaving: u32,
         arriving: u32,
     ) -> Result<u32, PlanFault>
-        ensures value { result ≡ answered (draw_fault (rows_of self.old) (plan_of self.old).edges start end length leaving arriving) (length-of (plan_of self.old).edges) }
+        ensures value { result ≡ answered (draw_fault (rows_of self.old) (plan_of self.old).edges start end length leaving arriving) (length_of (plan_of self.old).edges) }
         ensures after { (sheet : List ℕ) → study_of self.new sheet ≡ next (study_of self.old sheet) (Draw start end length leaving arriving) }
         ensures spare { spare_of self.new ≡ spare_left result (spare_of self.old) }
         ensures lender { lender_of self.new ≡ lender_of self.old }
@@ -67,7 +67,7 @@ impl Drawing<'_> {
     // Writes a row that passed all checks into the next spare place, and answers its number.
     fn put(&mut self, row: EdgeRow) -> u32
         requires { draw_fault (rows_of self.old) (plan_of self.old).edges row.start row.end row.length row.leaving row.arriving ≡ None }
-        ensures value { result ≡ length-of (plan_of self.old).edges }
+        ensures value { result ≡ length_of (plan_of self.old).edges }
         ensures after { plan_of self.new ≡ put_last (plan_of self.old) row }
         ensures rows { rows_of self.new ≡ rows_of self.old }
         ensures spare { spare_of self.new ≡ drop 1 (spare_of self.old) }

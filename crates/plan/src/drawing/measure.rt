@@ -1,5 +1,5 @@
 // Correcting the length of a drawn edge in its row.
-ghost use Rattle.std.specs.Prelude.{◌≡◌, ℕ, ◌<◌, List, length as length-of, None};
+ghost use Rattle.std.specs.Prelude.{◌≡◌, ℕ, ◌<◌, List, length as length_of, None};
 ghost use Rattle.plan.specs.Plans.{lender_of, plan_of, rows_of, spare_of};
 ghost use Rattle.plan.specs.Studies.{answered, drawn_fault, length_fault, measured, next, otherwise, study_of};
 ghost use Rattle.plan.specs.declared.change.Change.TheVariants.{Measure};
@@ -36,7 +36,7 @@ impl Drawing<'_> {
 
     // Writes a sound length into the row of a drawn edge.
     fn set_length(&mut self, at: usize, length: u32)
-        requires { (length_fault length ≡ None) × (at < length-of (plan_of self.old).edges) }
+        requires { (length_fault length ≡ None) × (at < length_of (plan_of self.old).edges) }
         ensures limits { (plan_of self.new).limits ≡ (plan_of self.old).limits }
         ensures edges { (plan_of self.new).edges ≡ measured (plan_of self.old).edges at length }
         ensures rows { rows_of self.new ≡ rows_of self.old }
