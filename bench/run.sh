@@ -13,7 +13,7 @@ study=crates/study/out/study
 planner=target/bench/planner
 
 if [ ! -x "$study" ]; then
-    echo "$study is not there: run rt run in crates/study first" >&2
+    echo "$study is not there: run rt run < stdin in crates/study first" >&2
     exit 1
 fi
 mkdir -p target/bench

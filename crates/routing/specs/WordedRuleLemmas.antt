@@ -1,3 +1,4 @@
+-- The rule of a word charges no more than the largest of the three.
 use Rattle.std.specs.Prelude.{ℕ, ◌≤◌}
 use Rattle.std.proofs.Common.{arith}
 use Rattle.plan.specs.Plans.{Plan, Sound}

@@ -1,4 +1,4 @@
-// The class of a turn for the drawing editor, which is written in C.
+// The class of a turn by five plain numbers, as the drawing editor asks for it; the static library `turns_c` exports it to C.
 ghost use Rattle.std.specs.Prelude.{◌≡◌};
 ghost use Rattle.turns.specs.Turns.{code_answer};
 

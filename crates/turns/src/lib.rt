@@ -1,4 +1,4 @@
-// Sector limits, bearings, turns and their classes; what the layer `plan` refuses; the class for the drawing editor in C.
+// Sector limits, bearings, turns and their classes; what the layer `plan` refuses; the class of a turn by five plain numbers.
 #![tactic(auto)]
 
 mod class;

@@ -2,7 +2,7 @@
 --
 -- Glossary
 --   RowLaws             the order of rows: no row comes before itself, it is transitive, two rows of equal length are in order or equal;
---                        adding a row on both sides keeps it, and no sum comes before its first row
+--                       adding a row on both sides keeps it, and no sum comes before its first row
 --   SimplestUnique      at most one walk is simplest
 --   SimplestBegins      where amounts are even, the simplest walk to an edge on a simplest walk is the beginning of that walk
 --   AlikeSimplest       networks that are alike have the same simplest walks, with the same costs, charges and lengths
