@@ -1,13 +1,11 @@
 -- What a call that is not refused has passed.
-use Rattle.std.proofs.Common.{◌≡◌, ℕ, ◌+◌, ◌<◌, ◌≤◌, Bool, true, false, cond, not, eqb, ltb, leb, List, [], ◌∷◌, length, Some, None, Ok, Err, count_by, Option, Result, sym, refl, ap, ◌∙◌, arith}
+use Rattle.std.proofs.Common.{◌≡◌, ℕ, ◌+◌, ◌<◌, ◌≤◌, Bool, true, false, cond, not, eqb, ltb, leb, List, [], ◌∷◌, length, Some, None, count_by, Option, refl, ◌∙◌, arith}
 use Rattle.std.specs.List.{prefix_len}
 use Rattle.std.proofs.lemmas.List.Sums.{sum_by-cons}
 use Rattle.std.proofs.lemmas.Bool.{ltb-false, leb-false, le-leb, lt-ltb, and_from, not_from_false}
 use Rattle.turns.specs.declared.fault.PlanFault.{PlanFault}
 use Rattle.plan.specs.Rows.{fine, joins, leaves}
-use Rattle.plan.specs.Studies.{otherwise, answered, place, room_fault, junction_fault, length_fault, row_fault, draw_fault, Study, study_of, unless, spare_left}
-use Rattle.plan.specs.Plans.{Plan, plan_of, rows_of}
-use Rattle.plan.specs.declared.drawing.Drawing.{Drawing}
+use Rattle.plan.specs.Studies.{brought, otherwise, place, room_fault, junction_fault, length_fault, row_fault, draw_fault}
 use Rattle.plan.specs.declared.row.EdgeRow.{EdgeRow}
 
 -- a fault that is none came of two that are none
@@ -19,15 +17,6 @@ otherwise_none None b e = (refl, e)
 pub passed : (t : Bool) (f : PlanFault) (rest : Option PlanFault) → cond t (Some f) rest ≡ None → (t ≡ false) × (rest ≡ None)
 passed true f rest e = absurd (let z : ◌≡◌ {A = ℕ} 0 1 = cc in omega arith)
 passed false f rest e = (refl, e)
-
--- an answer that is a value has no fault
-pub answered_ok : {A : Type 0} (f : Option PlanFault) (x y : A) → answered f x ≡ Ok y → (f ≡ None) × (x ≡ y)
-answered_ok (Some f) x y e = absurd (let z : ◌≡◌ {A = ℕ} 0 1 = cc in omega arith)
-answered_ok None x y e = (refl, cc)
-
-pub answered_err : {A : Type 0} (f : Option PlanFault) (x : A) (g : PlanFault) → answered f x ≡ Err g → f ≡ Some g
-answered_err (Some f) x g e = cc
-answered_err None x g e = absurd (let z : ◌≡◌ {A = ℕ} 0 1 = cc in omega arith)
 
 -- where no row passes, none is counted
 none_counted : {X : Type 0} (p : X → Bool) (xs : List X) → length xs ≤ prefix_len (λ x. not (p x)) xs → count_by p xs ≡ 0
@@ -51,7 +40,7 @@ pub record Drawable (rows : ℕ) (edges : List EdgeRow) (r : EdgeRow) : Type 0 w
   pub single : count_by (joins r.start r.end) edges ≡ 0
   pub narrow : count_by (leaves r.start) edges < 16
 
-fine-row : (r : EdgeRow) → row_fault r.start r.end r.length r.leaving r.arriving ≡ None → fine r ≡ true
+fine-row : (r : EdgeRow) → row_fault (brought r) ≡ None → fine r ≡ true
 fine-row r e =
     let f = otherwise_none (junction_fault r.start r.end) _ e in
     let g = otherwise_none (length_fault r.length) _ f.1 in
@@ -70,10 +59,10 @@ fine-row r e =
     (and_from _ _ (lt-ltb r.leaving 360 (omega (arith, ltb-false 359 r.leaving p.0)))
     (lt-ltb r.arriving 360 (omega (arith, ltb-false 359 r.arriving q.0))))))))
 
-pub drawable : (rows : ℕ) (edges : List EdgeRow) (r : EdgeRow) → draw_fault rows edges r.start r.end r.length r.leaving r.arriving ≡ None → Drawable rows edges r
+pub drawable : (rows : ℕ) (edges : List EdgeRow) (r : EdgeRow) → draw_fault rows edges (brought r) ≡ None → Drawable rows edges r
 drawable rows edges r e =
     let f = otherwise_none (room_fault rows edges) _ e in
-    let g = otherwise_none (row_fault r.start r.end r.length r.leaving r.arriving) _ f.1 in
+    let g = otherwise_none (row_fault (brought r)) _ f.1 in
     let a = passed (leb rows (length edges)) _ _ f.0 in
     let b = passed (leb 1024 (length edges)) _ _ a.1 in
     let p = passed (ltb (place r.start r.end edges) (length edges)) _ _ g.1 in
@@ -85,30 +74,3 @@ drawable rows edges r e =
       single = none_counted (joins r.start r.end) edges (ltb-false _ _ p.0);
       narrow = leb-false 16 (count_by (leaves r.start) edges) q.0;
     }
-
-pub first_fault : (a b : Option PlanFault) (g : PlanFault) → a ≡ Some g → otherwise a b ≡ Some g
-first_fault a b g e = ap (λ f. otherwise f b) e
-
-pub second_fault : (a b : Option PlanFault) (g : Option PlanFault) → a ≡ None → b ≡ g → otherwise a b ≡ g
-second_fault a b g e h = ap (λ f. otherwise f b) e ∙ h
-
--- a call that is refused: its answer, the study after it, and the spare rows
-pub record Refused (r : Result ℕ PlanFault) (f : Option PlanFault) (n : ℕ) (spare : List EdgeRow) : Type 0 where
-  pub value : r ≡ answered f n
-  pub same : (s t : Study) → s ≡ unless f s t
-  pub left : spare ≡ spare_left r spare
-
-pub refused : (r : Result ℕ PlanFault) (f : Option PlanFault) (n : ℕ) (spare : List EdgeRow) (g : PlanFault) → r ≡ Err g → f ≡ Some g → Refused r f n spare
-refused r f n spare g e h = record {
-  value = e ∙ ap (λ x. answered x n) (sym h);
-  same = λ s t. ap (λ x. unless x s t) (sym h);
-  left = ap (λ x. spare_left x spare) (sym e);
-}
-
--- a study of a drawing whose plan and number of rows are known
-pub study_is : (d : Drawing) (p : Plan) (n : ℕ) (sheet : List ℕ) → plan_of d ≡ p → rows_of d ≡ n → study_of d sheet ≡ record { limits = p.limits; rows = n; edges = p.edges; sheet = sheet }
-study_is d p n sheet e h = λ i. record { limits = (e i).limits; rows = h i; edges = (e i).edges; sheet = sheet }
-
--- a change that is carried out
-pub moved : (f : Option PlanFault) (s t : Study) → f ≡ None → t ≡ unless f s t
-moved f s t e = ap (λ x. unless x s t) (sym e)

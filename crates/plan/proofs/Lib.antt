@@ -1,4 +1,5 @@
 pub mod Drawn
 pub mod Faults
 pub mod Measures
+pub mod Overs
 pub mod Puts

@@ -6,12 +6,9 @@ use Rattle.std.proofs.lemmas.List.Sums.{sum_by-set}
 use Rattle.std.proofs.lemmas.Bool.{and_parts, and_from, ltb-false, lt-ltb, le-leb, cases_eq}
 use Rattle.plan.specs.Plans.{no_row}
 use Rattle.plan.specs.Rows.{fine}
-use Rattle.plan.specs.Studies.{row_of, length_fault, measured}
+use Rattle.plan.specs.Studies.{length_fault, measured, with_length}
 use Rattle.plan.specs.declared.row.EdgeRow.{EdgeRow}
 use Rattle.plan.proofs.Faults.{passed}
-
-abbrev pub with_length : EdgeRow → ℕ → EdgeRow
-with_length r long = row_of r.start r.end long r.leaving r.arriving
 
 -- a count does not see a change to which its test is blind
 pub count_blind : {X : Type 0} (p : X → Bool) (xs : List X) (i : ℕ) (y d : X) → i < length xs → p y ≡ p (get_or xs i d) → count_by p (set xs i y) ≡ count_by p xs

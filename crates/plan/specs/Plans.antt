@@ -6,6 +6,7 @@
 --   spare_of d        the rows of d that are not drawn yet, as they lie
 --   rows_of d         how many rows d has, drawn and spare
 --   lender_of d       which list of rows d was made over: the name by which a caller follows what it lent
+--   Over rows d       the drawing d lies over these rows: behind its edges they are as they were brought
 --   edge_at p e       the row of the edge e (a row of zeros where e is not drawn)
 --   degree p j        how many edges leave the junction j
 --   steps p e f       whether a step leads from the edge e to the edge f: both are drawn, f starts where e ends, and f does not end where e starts
@@ -37,6 +38,9 @@ rows_of d = length d.rows.now
 
 abbrev pub lender_of : Drawing → ℕ
 lender_of d = d.rows.ghost_name
+
+abbrev pub Over : List EdgeRow → Drawing → Type 0
+Over rows d = spare_of d ≡ drop (length (plan_of d).edges) rows
 
 abbrev pub no_row : EdgeRow
 no_row = record { start = 0; end = 0; length = 0; leaving = 0; arriving = 0 }

@@ -15,12 +15,16 @@
 --                      writes 1 and opening 0 at the edge's byte
 --   spare_left r rows  the spare rows after drawing: without the first where an edge was drawn
 --   put_last p row     the plan p with one edge more
---   row_of             the row of five numbers
+--   row_of e           the row of the edge e that is brought
+--   brought r          the edge that would be brought for the row r
+--   with_length r long the row r with this length
+--   number_drawn s c   the number of the edge that the change c draws in the study s, if it draws one
+--   switching shut e   the change that closes the edge e, or opens it
 --   place start end edges   the number of the edge from start to end, or the number of edges where there is none
 --   next s c           the study after the change c, refused or not: a refused change changes nothing
 --   after s cs         the study after all changes of the list cs, the first first
 -- Assumes nothing.
-use Rattle.std.specs.Prelude.{ℕ, Bool, cond, not, List, [], ◌∷◌, ◌++◌, length, drop, replicate, Some, None, Ok, Err, count_by, Option, Result, ◌==◌, nat_le, nat_lt, slice_index, slice_index_or, slice_set}
+use Rattle.std.specs.Prelude.{ℕ, Bool, true, false, cond, not, List, [], ◌∷◌, ◌++◌, length, drop, replicate, Some, None, Ok, Err, count_by, Option, Result, ◌==◌, nat_le, nat_lt, slice_index, slice_index_or, slice_set}
 use Rattle.std.specs.List.{prefix_len}
 use Rattle.turns.specs.Sectors.{Limits}
 use Rattle.turns.specs.declared.fault.PlanFault.{PlanFault}
@@ -28,6 +32,7 @@ use Rattle.turns.specs.declared.fault.PlanFault.TheVariants.{Full, BadJunction, 
 use Rattle.plan.specs.Plans.{Plan, plan_of, rows_of, no_row}
 use Rattle.plan.specs.Rows.{joins, leaves}
 use Rattle.plan.specs.declared.change.Change.{Change}
+use Rattle.plan.specs.declared.change.NewEdge.{NewEdge}
 use Rattle.plan.specs.declared.change.Change.TheVariants.{Draw, Measure, Close, Open}
 use Rattle.plan.specs.declared.drawing.Drawing.{Drawing}
 use Rattle.plan.specs.declared.row.EdgeRow.{EdgeRow}
@@ -47,8 +52,14 @@ begun l rows size = record { limits = l; rows = rows; edges = []; sheet = replic
 abbrev pub shut : List ℕ → ℕ → Bool
 shut sheet e = not (slice_index sheet e == 0)
 
-abbrev pub row_of : ℕ → ℕ → ℕ → ℕ → ℕ → EdgeRow
-row_of start end long leaving arriving = record { start = start; end = end; length = long; leaving = leaving; arriving = arriving }
+abbrev pub row_of : NewEdge → EdgeRow
+row_of e = record { start = e.start; end = e.end; length = e.length; leaving = e.leaving; arriving = e.arriving }
+
+abbrev pub brought : EdgeRow → NewEdge
+brought r = record { start = r.start; end = r.end; length = r.length; leaving = r.leaving; arriving = r.arriving }
+
+abbrev pub with_length : EdgeRow → ℕ → EdgeRow
+with_length r long = record { start = r.start; end = r.end; length = long; leaving = r.leaving; arriving = r.arriving }
 
 abbrev pub place : ℕ → ℕ → List EdgeRow → ℕ
 place start end edges = prefix_len (λ r. not (joins start end r)) edges
@@ -81,19 +92,19 @@ abbrev pub bearing_fault : ℕ → ℕ → Option PlanFault
 bearing_fault leaving arriving =
     cond (nat_lt 359 leaving) (Some (BadBearing leaving)) (cond (nat_lt 359 arriving) (Some (BadBearing arriving)) None)
 
-abbrev pub row_fault : ℕ → ℕ → ℕ → ℕ → ℕ → Option PlanFault
-row_fault start end long leaving arriving =
-    otherwise (junction_fault start end) (otherwise (length_fault long) (bearing_fault leaving arriving))
+abbrev pub row_fault : NewEdge → Option PlanFault
+row_fault e =
+    otherwise (junction_fault e.start e.end) (otherwise (length_fault e.length) (bearing_fault e.leaving e.arriving))
 
 abbrev pub neighbour_fault : List EdgeRow → ℕ → ℕ → Option PlanFault
 neighbour_fault edges start end =
     cond (nat_lt (place start end edges) (length edges)) (Some (Repeated (place start end edges)))
     (cond (nat_le 16 (count_by (leaves start) edges)) (Some (Crowded start)) None)
 
-abbrev pub draw_fault : ℕ → List EdgeRow → ℕ → ℕ → ℕ → ℕ → ℕ → Option PlanFault
-draw_fault rows edges start end long leaving arriving =
+abbrev pub draw_fault : ℕ → List EdgeRow → NewEdge → Option PlanFault
+draw_fault rows edges e =
     otherwise (room_fault rows edges)
-    (otherwise (row_fault start end long leaving arriving) (neighbour_fault edges start end))
+    (otherwise (row_fault e) (neighbour_fault edges e.start e.end))
 
 abbrev pub drawn_fault : List EdgeRow → ℕ → Option PlanFault
 drawn_fault edges edge = cond (nat_le (length edges) edge) (Some (NotDrawn edge)) None
@@ -105,7 +116,7 @@ abbrev pub already_fault : Bool → ℕ → Option PlanFault
 already_fault already edge = cond already (Some (Already edge)) None
 
 abbrev pub refusal_of : Study → Change → Option PlanFault
-refusal_of s (Draw start end long leaving arriving) = draw_fault s.rows s.edges start end long leaving arriving
+refusal_of s (Draw e) = draw_fault s.rows s.edges e
 refusal_of s (Measure edge long) = otherwise (length_fault long) (drawn_fault s.edges edge)
 refusal_of s (Close edge) =
     otherwise (drawn_fault s.edges edge)
@@ -115,9 +126,7 @@ refusal_of s (Open edge) =
     (otherwise (sheet_fault s.edges s.sheet) (already_fault (not (shut s.sheet edge)) edge))
 
 abbrev pub measured : List EdgeRow → ℕ → ℕ → List EdgeRow
-measured edges edge long =
-    let r : EdgeRow = slice_index_or edges edge no_row in
-    slice_set edges edge (row_of r.start r.end long r.leaving r.arriving)
+measured edges edge long = slice_set edges edge (with_length (slice_index_or edges edge no_row) long)
 
 abbrev pub put_last : Plan → EdgeRow → Plan
 put_last p row = record { limits = p.limits; edges = p.edges ++ row ∷ [] }
@@ -130,7 +139,7 @@ with_sheet s sheet = record { limits = s.limits; rows = s.rows; edges = s.edges;
 
 -- the study after a change that is not refused
 abbrev pub changed : Study → Change → Study
-changed s (Draw start end long leaving arriving) = with_edges s (s.edges ++ row_of start end long leaving arriving ∷ [])
+changed s (Draw e) = with_edges s (s.edges ++ row_of e ∷ [])
 changed s (Measure edge long) = with_edges s (measured s.edges edge long)
 changed s (Close edge) = with_sheet s (slice_set s.sheet edge 1)
 changed s (Open edge) = with_sheet s (slice_set s.sheet edge 0)
@@ -149,3 +158,13 @@ after s (c ∷ cs) = after (next s c) cs
 abbrev pub spare_left : {A : Type 0} → Result A PlanFault → List EdgeRow → List EdgeRow
 spare_left (Ok x) spare = drop 1 spare
 spare_left (Err f) spare = spare
+
+abbrev pub number_drawn : Study → Change → Option ℕ
+number_drawn s (Draw e) = Some (length s.edges)
+number_drawn s (Measure edge long) = None
+number_drawn s (Close edge) = None
+number_drawn s (Open edge) = None
+
+abbrev pub switching : Bool → ℕ → Change
+switching true edge = Close edge
+switching false edge = Open edge

@@ -1,6 +1,7 @@
 // A drawing of walkable edges over rows that the caller brings, and the closing sheet beside it.
 #![tactic(auto)]
 
+mod calls;
 mod change;
 mod drawing;
 mod junction;
@@ -8,7 +9,8 @@ mod row;
 mod sheet;
 mod step;
 
-pub use change::Change;
+pub use calls::apply;
+pub use change::{Change, NewEdge};
 pub use drawing::Drawing;
 pub use row::EdgeRow;
 pub use sheet::{close, open};

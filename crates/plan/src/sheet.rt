@@ -1,7 +1,7 @@
 // The closing sheet: byte n is edge n, 0 is open, any other value is shut.
 ghost use Rattle.std.specs.Prelude.{◌≡◌};
 ghost use Rattle.plan.specs.Plans.{plan_of};
-ghost use Rattle.plan.specs.Studies.{answered, next, refusal_of, sheet_fault, study_of};
+ghost use Rattle.plan.specs.Studies.{answered, next, refusal_of, sheet_fault, study_of, switching};
 ghost use Rattle.plan.specs.declared.change.Change.TheVariants.{Close, Open};
 
 use crate::drawing::Drawing;
@@ -15,14 +15,7 @@ pub fn close(drawing: &Drawing<'_>, sheet: &mut [u8], edge: u32) -> Result<(), P
     ensures value { result ≡ answered (refusal_of (study_of drawing.now sheet.old) (Close edge)) tt }
     ensures after { study_of drawing.now sheet.new ≡ next (study_of drawing.now sheet.old) (Close edge) }
 {
-    drawing.check_drawn(edge)?;
-    check_sheet(drawing, sheet)?;
-    let at = edge as usize;
-    if sheet[at] != 0 {
-        return Err(PlanFault::Already(edge));
-    }
-    sheet[at] = 1;
-    Ok(())
+    switch(drawing, sheet, edge, true)
 }
 
 /// Opens a shut edge: writes 0 at its byte, and nothing else.
@@ -33,13 +26,21 @@ pub fn open(drawing: &Drawing<'_>, sheet: &mut [u8], edge: u32) -> Result<(), Pl
     ensures value { result ≡ answered (refusal_of (study_of drawing.now sheet.old) (Open edge)) tt }
     ensures after { study_of drawing.now sheet.new ≡ next (study_of drawing.now sheet.old) (Open edge) }
 {
+    switch(drawing, sheet, edge, false)
+}
+
+// Shuts an open edge, or opens a shut one.
+fn switch(drawing: &Drawing<'_>, sheet: &mut [u8], edge: u32, shut: bool) -> Result<(), PlanFault>
+    ensures value { result ≡ answered (refusal_of (study_of drawing.now sheet.old) (switching shut edge)) tt }
+    ensures after { study_of drawing.now sheet.new ≡ next (study_of drawing.now sheet.old) (switching shut edge) }
+{
     drawing.check_drawn(edge)?;
     check_sheet(drawing, sheet)?;
     let at = edge as usize;
-    if sheet[at] == 0 {
+    if (sheet[at] != 0) == shut {
         return Err(PlanFault::Already(edge));
     }
-    sheet[at] = 0;
+    sheet[at] = u8::from(shut);
     Ok(())
 }
 

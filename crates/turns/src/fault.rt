@@ -29,12 +29,12 @@ pub enum PlanFault {
     ShortSheet(u32),
 }
 
-impl PlanFault {
-    /// The refusal's number, detail and layer: `BadLength(0)` is number 4 with detail 0 of the layer `plan`.
-    pub fn refusal(self) -> Refusal
-        ensures value { result ≡ plan_refusal self }
-    {
-        let (number, detail) = match self {
+/// The refusal's number, detail and layer: `BadLength(0)` is number 4 with detail 0 of the layer `plan`.
+impl From<PlanFault> for Refusal {
+    ghost from_gives = { λ f r. r ≡ plan_refusal f };
+
+    fn from(fault: PlanFault) -> Refusal {
+        let (number, detail) = match fault {
             PlanFault::BadLimits(limit) => (1, limit),
             PlanFault::Full(drawn) => (2, drawn),
             PlanFault::BadJunction(junction) => (3, junction),

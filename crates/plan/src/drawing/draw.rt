@@ -1,11 +1,12 @@
 // Drawing an edge.
 ghost use Rattle.std.specs.Prelude.{◌≡◌, ℕ, List, length as length_of, drop, None};
 ghost use Rattle.plan.specs.Plans.{lender_of, plan_of, rows_of, spare_of};
-ghost use Rattle.plan.specs.Studies.{answered, draw_fault, length_fault, neighbour_fault, next, put_last, room_fault, row_fault, row_of, spare_left, study_of};
+ghost use Rattle.plan.specs.Studies.{answered, brought, draw_fault, neighbour_fault, next, put_last, room_fault, spare_left, study_of};
 ghost use Rattle.plan.specs.declared.change.Change.TheVariants.{Draw};
 
+use crate::change::NewEdge;
 use crate::drawing::Drawing;
-use crate::junction::{leaving_count, place_of};
+use crate::junction::{edge_between, leaving_count};
 use crate::row::EdgeRow;
 use turns::PlanFault;
 
@@ -19,22 +20,15 @@ impl Drawing<'_> {
     ///
     /// Refusals, in their order: 2 where all rows are used or 1,024 edges are drawn, 3 for the junctions, 4 for the length, 5 for the bearings, 6 where an
     /// edge with this start and end is drawn, 7 where 16 edges leave the start. A refusal changes nothing.
-    pub fn draw(
-        &mut self,
-        start: u32,
-        end: u32,
-        length: u32,
-        leaving: u32,
-        arriving: u32,
-    ) -> Result<u32, PlanFault>
-        ensures value { result ≡ answered (draw_fault (rows_of self.old) (plan_of self.old).edges start end length leaving arriving) (length_of (plan_of self.old).edges) }
-        ensures after { (sheet : List ℕ) → study_of self.new sheet ≡ next (study_of self.old sheet) (Draw start end length leaving arriving) }
+    pub fn draw(&mut self, edge: NewEdge) -> Result<u32, PlanFault>
+        ensures value { result ≡ answered (draw_fault (rows_of self.old) (plan_of self.old).edges edge) (length_of (plan_of self.old).edges) }
+        ensures after { (sheet : List ℕ) → study_of self.new sheet ≡ next (study_of self.old sheet) (Draw edge) }
         ensures spare { spare_of self.new ≡ spare_left result (spare_of self.old) }
         ensures lender { lender_of self.new ≡ lender_of self.old }
     {
         self.check_room()?;
-        let row = checked_row(start, end, length, leaving, arriving)?;
-        self.check_neighbours(start, end)?;
+        let row = EdgeRow::try_from(edge)?;
+        self.check_neighbours(edge.start, edge.end)?;
         Ok(self.put(row))
     }
 
@@ -54,9 +48,8 @@ impl Drawing<'_> {
         ensures value { result ≡ answered (neighbour_fault (plan_of self.now).edges start end) tt }
     {
         let edges = self.edges();
-        let place = place_of(edges, start, end);
-        if place < edges.len() {
-            return Err(PlanFault::Repeated(place as u32));
+        if let Some(edge) = edge_between(edges, start, end) {
+            return Err(PlanFault::Repeated(edge as u32));
         }
         if leaving_count(edges, start) >= MOST_LEAVING {
             return Err(PlanFault::Crowded(start));
@@ -66,7 +59,7 @@ impl Drawing<'_> {
 
     // Writes a row that passed all checks into the next spare place, and answers its number.
     fn put(&mut self, row: EdgeRow) -> u32
-        requires { draw_fault (rows_of self.old) (plan_of self.old).edges row.start row.end row.length row.leaving row.arriving ≡ None }
+        requires { draw_fault (rows_of self.old) (plan_of self.old).edges (brought row) ≡ None }
         ensures value { result ≡ length_of (plan_of self.old).edges }
         ensures after { plan_of self.new ≡ put_last (plan_of self.old) row }
         ensures rows { rows_of self.new ≡ rows_of self.old }
@@ -78,46 +71,4 @@ impl Drawing<'_> {
         self.count = at + 1;
         at as u32
     }
-}
-
-// The row of these numbers, or why there is none: a junction, the length or a bearing.
-fn checked_row(
-    start: u32,
-    end: u32,
-    length: u32,
-    leaving: u32,
-    arriving: u32,
-) -> Result<EdgeRow, PlanFault>
-    ensures value { result ≡ answered (row_fault start end length leaving arriving) (row_of start end length leaving arriving) }
-{
-    if start > 1023 || start == end {
-        return Err(PlanFault::BadJunction(start));
-    }
-    if end > 1023 {
-        return Err(PlanFault::BadJunction(end));
-    }
-    check_length(length)?;
-    if leaving > 359 {
-        return Err(PlanFault::BadBearing(leaving));
-    }
-    if arriving > 359 {
-        return Err(PlanFault::BadBearing(arriving));
-    }
-    Ok(EdgeRow {
-        start: start as u16,
-        end: end as u16,
-        length,
-        leaving: leaving as u16,
-        arriving: arriving as u16,
-    })
-}
-
-// Whether a length can be drawn or measured: 1 to 100,000.
-pub(crate) fn check_length(length: u32) -> Result<(), PlanFault>
-    ensures value { result ≡ answered (length_fault length) tt }
-{
-    if length < 1 || length > 100_000 {
-        return Err(PlanFault::BadLength(length));
-    }
-    Ok(())
 }

@@ -9,6 +9,7 @@ use turns::Sectors;
 
 impl<'a> Drawing<'a> {
     /// An empty drawing over the limits and the rows that are brought. It cannot fail.
+    #[tactic(auto, unfolding(crate::specs::Plans::plan_of, crate::specs::Plans::spare_of))]
     pub fn new(limits: Sectors, rows: &'a mut [EdgeRow]) -> Drawing<'a>
         ensures limits { (plan_of result).limits ≡ limits_of limits }
         ensures edges { (plan_of result).edges ≡ [] }
@@ -43,6 +44,7 @@ impl<'a> Drawing<'a> {
     }
 
     /// The sector limits.
+    #[tactic(auto, unfolding(crate::specs::Plans::plan_of))]
     pub fn limits(&self) -> &Sectors
         ensures value { limits_of result.now ≡ (plan_of self.now).limits }
     {

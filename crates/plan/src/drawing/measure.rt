@@ -5,7 +5,7 @@ ghost use Rattle.plan.specs.Studies.{answered, drawn_fault, length_fault, measur
 ghost use Rattle.plan.specs.declared.change.Change.TheVariants.{Measure};
 
 use crate::drawing::Drawing;
-use crate::drawing::draw::check_length;
+use crate::row::check_length;
 use turns::PlanFault;
 
 impl Drawing<'_> {

@@ -2,9 +2,10 @@ use Rattle.std.proofs.Common.{◌<◌, get_or, refl, arith}
 use Rattle.std.proofs.lemmas.List.{length-set, drop-set-lt}
 use Rattle.plan.specs.Plans.{plan_of, spare_of, no_row}
 use Rattle.plan.specs.Rows.{joins, leaves}
+use Rattle.plan.specs.Studies.{with_length}
 use Rattle.plan.specs.declared.drawing.Drawing.{Drawing}
 use Rattle.plan.proofs.Drawn.{edges_count}
-use Rattle.plan.proofs.Measures.{with_length, count-measured, edges_measured, fine-measured}
+use Rattle.plan.proofs.Measures.{count-measured, edges_measured, fine-measured}
 use Rattle.plan.proofs.drawing.Drawing.set_length.Goals as goal
 
 pub offset_bounds-self-at : goal.offset_bounds-self-at
