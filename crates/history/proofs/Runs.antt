@@ -3,7 +3,7 @@ use Rattle.std.proofs.Common.{◌≡◌, ℕ, ◌+◌, ◌<◌, List, [], ◌∷
 use Rattle.std.proofs.lemmas.List.{map_more, take_more}
 use Rattle.cost.specs.declared.kind.CostKind.{Ghosts as Kind}
 use Rattle.rules.specs.declared.rule.TurnRule.{Ghosts as Rule}
-use Rattle.plan.specs.Plans.{plan_of, spare_of}
+use Rattle.plan.specs.Plans.{Over, plan_of, spare_of}
 use Rattle.plan.specs.Studies.{Study, next}
 use Rattle.plan.specs.declared.change.Change.{Change as Alteration}
 use Rattle.plan.specs.declared.drawing.Drawing.{Drawing}
@@ -13,7 +13,7 @@ use Rattle.search.specs.Questions.{Answers, Question, asked}
 use Rattle.search.specs.declared.answer.Answer.{Answer}
 use Rattle.search.specs.declared.fault.QuestionFault.{QuestionFault}
 use Rattle.search.specs.declared.label.Label.{Label}
-use Rattle.history.specs.Replays.{Over, ReplayedByRun, Run, call_of, calls_of, drawn_over}
+use Rattle.history.specs.Replays.{ReplayedByRun, Run, call_of, calls_of, drawn_over}
 use Rattle.history.specs.declared.call.Call.{Call}
 use Rattle.history.specs.declared.call.Call.TheVariants.{Change, Ask}
 

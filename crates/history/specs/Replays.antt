@@ -4,7 +4,6 @@
 --   call_of T K labels queue route c    the call c as what it brings: a change, or a question with these lengths of labels, queue and route list
 --   calls_of ..                         all calls of a list
 --   drawn_over rows edges               rows that were brought, after these edges were drawn in the first of them
---   Over rows d                         the drawing d lies over these rows: behind its edges they are as they were brought
 --   Replayed ..                         after the history of calls from the making of the study, the last question is answered as Answers says of the plain study
 --                                       after that history, over lists of the lengths that were brought, and as every alike question is
 --   Run T K queue s calls labels labels' route route'
@@ -17,9 +16,7 @@
 use Rattle.std.specs.Prelude.{◌≡◌, ℕ, List, [], ◌∷◌, ◌++◌, map, length, drop, Result}
 use Rattle.cost.specs.declared.kind.CostKind.{Ghosts as Kind}
 use Rattle.rules.specs.declared.rule.TurnRule.{Ghosts as Rule}
-use Rattle.plan.specs.Plans.{plan_of, spare_of}
 use Rattle.plan.specs.Studies.{Study, next}
-use Rattle.plan.specs.declared.drawing.Drawing.{Drawing}
 use Rattle.plan.specs.declared.row.EdgeRow.{EdgeRow}
 use Rattle.search.specs.Histories.{Agrees, Call as Event, after_calls, asking, changing}
 use Rattle.search.specs.Questions.{Answers, Question, asked}
@@ -38,9 +35,6 @@ calls_of T K labels queue route calls = map (call_of T K labels queue route) cal
 
 abbrev pub drawn_over : List EdgeRow → List EdgeRow → List EdgeRow
 drawn_over rows edges = edges ++ drop (length edges) rows
-
-abbrev pub Over : List EdgeRow → Drawing → Type 0
-Over rows d = spare_of d ≡ drop (length (plan_of d).edges) rows
 
 pub record Replayed {C : Type 0} (K : Kind C) (σ : K.Settings) (s : Study) (q : Question) (labels labels' : List (Label C)) (route route' : List ℕ) (r : Result (Answer C) QuestionFault) : Type 0 where
   pub held : List (Label C)

@@ -1,7 +1,6 @@
 // Histories of calls as data, and a study replayed from its making.
 #![tactic(auto)]
 
-mod apply;
 mod call;
 mod playing;
 

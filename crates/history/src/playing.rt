@@ -1,17 +1,16 @@
 // Replaying a history of calls.
 ghost use Rattle.std.specs.Prelude.{◌≡◌, List, length};
 ghost use Rattle.turns.specs.Sectors.{limits_of};
-ghost use Rattle.plan.specs.Plans.{lender_of};
+ghost use Rattle.plan.specs.Plans.{Over, lender_of};
 ghost use Rattle.plan.specs.Studies.{begun, study_of};
 ghost use Rattle.plan.specs.declared.row.EdgeRow.{EdgeRow};
 ghost use Rattle.search.specs.Histories.{after_calls};
 ghost use Rattle.search.specs.Questions.{asked};
-ghost use Rattle.history.specs.Replays.{Over, Replayed, ReplayedByRun, Run, calls_of, drawn_over};
+ghost use Rattle.history.specs.Replays.{Replayed, ReplayedByRun, Run, calls_of, drawn_over};
 
-use crate::apply::{apply, clear};
 use crate::call::Call;
 use cost::CostKind;
-use plan::{Drawing, EdgeRow};
+use plan::{Drawing, EdgeRow, apply};
 use rules::TurnRule;
 use search::{Answer, Label, QuestionFault, QueueSlot, ask};
 use turns::Sectors;
@@ -39,7 +38,7 @@ pub fn replay<R: TurnRule, C: CostKind>(
     ensures rows { rows.new ≡ drawn_over rows.old (after_calls (begun (limits_of limits) (length rows.old) (length sheet.old)) (calls_of R.TurnRule C.CostKind (length labels.old) (length queue.old) (length route.old) calls.now)).edges }
     ensures sheet { sheet.new ≡ (after_calls (begun (limits_of limits) (length rows.old) (length sheet.old)) (calls_of R.TurnRule C.CostKind (length labels.old) (length queue.old) (length route.old) calls.now)).sheet }
 {
-    clear(sheet);
+    sheet.fill(0);
     let mut drawing = Drawing::new(limits, rows);
     make_calls(&mut drawing, sheet, calls, labels, queue, route);
     let answer = ask(
@@ -65,7 +64,9 @@ fn make_calls<R: TurnRule, C: CostKind>(
 {
     for call in calls {
         match call {
-            Call::Change(change) => apply(drawing, sheet, *change),
+            Call::Change(change) => {
+                let _ = apply(drawing, sheet, *change);
+            }
             Call::Ask {
                 first,
                 last,

@@ -1,11 +1,11 @@
 use Rattle.std.proofs.Common.{◌≡◌, ℕ, ◌+◌, List, length, take, sym, ap, ◌∙◌, subst, subst₂, arith}
 use Rattle.std.proofs.lemmas.List.{take_all}
-use Rattle.plan.specs.Plans.{lender_of}
+use Rattle.plan.specs.Plans.{Over, lender_of}
 use Rattle.plan.specs.Studies.{Study, next, study_of}
 use Rattle.plan.specs.declared.drawing.Drawing.{Drawing}
 use Rattle.plan.specs.declared.row.EdgeRow.{EdgeRow}
 use Rattle.search.specs.Histories.{after_calls, next_call}
-use Rattle.history.specs.Replays.{Over, Run, call_of, calls_of}
+use Rattle.history.specs.Replays.{Run, call_of, calls_of}
 use Rattle.history.proofs.Runs.{after_more, run_more_ask, run_more_change}
 use Rattle.history.proofs.playing.make_calls.Goals as goal
 use Rattle.history.proofs.playing.make_calls.Goals.{in-Change, in-Ask}
@@ -24,7 +24,7 @@ loop-call-preserved g c =
         w.apply.ensures.after ∙ ap (λ t. next t w.in-Change.change) c.loop-call.invariant.0
             ∙ sym (more ∙ ap (λ x. next_call (after_calls s (calls_of g.R.TurnRule g.C.CostKind (length c.args.labels.now) (length c.args.queue.now) (length c.args.route.now) (take c.loop-call.call-index c.args.calls.now))) (call_of g.R.TurnRule g.C.CostKind (length c.args.labels.now) (length c.args.queue.now) (length c.args.route.now) x)) w.in-Change.is),
         w.apply.ensures.lender ∙ c.loop-call.invariant.1,
-        λ all over. w.apply.ensures.rows all (c.loop-call.invariant.2 all over),
+        λ all over. w.apply.ensures.over all (c.loop-call.invariant.2 all over),
         subst₂ (λ labels route. Run g.R.TurnRule g.C.CostKind (length c.args.queue.now) s (take (c.loop-call.call-index + 1) c.args.calls.now) c.args.labels.now labels c.args.route.now route) (sym w.labels-is) (sym w.route-is)
             (run_more_change g.R.TurnRule g.C.CostKind (length c.args.queue.now) s c.args.calls.now c.loop-call.call-index c.call-item.result w.in-Change.change c.args.labels.now c.loop-call.labels c.args.route.now c.loop-call.route (omega arith) c.call-item.is w.in-Change.is c.loop-call.invariant.3),
       )

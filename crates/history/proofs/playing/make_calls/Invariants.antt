@@ -1,9 +1,9 @@
 use Rattle.std.proofs.Common.{◌≡◌, List, length, take}
-use Rattle.plan.specs.Plans.{lender_of}
+use Rattle.plan.specs.Plans.{Over, lender_of}
 use Rattle.plan.specs.Studies.{study_of}
 use Rattle.plan.specs.declared.row.EdgeRow.{EdgeRow}
 use Rattle.search.specs.Histories.{after_calls}
-use Rattle.history.specs.Replays.{Over, Run, calls_of}
+use Rattle.history.specs.Replays.{Run, calls_of}
 use Rattle.history.proofs.playing.make_calls.Given as goal
 
 abbrev pub invariant-loop-call : goal.invariant-loop-call
