@@ -4,7 +4,8 @@
 ghost use Rattle.cases.specs.Worked.{Worked};
 
 use cost::Weighted;
-use plan::{Drawing, EdgeRow};
+use plan::{Drawing, EdgeRow, NewEdge};
+use refusal::Refusal;
 use rules::{Slots, TurnRule};
 use std::io;
 use turns::{Sectors, turn};
@@ -27,13 +28,22 @@ fn show_turn(rt: &HostRuntime, arriving: u32, leaving: u32, want: &str) -> io::R
             println!(rt; "turn {arriving} {leaving}: should be {want}; came {angle} {code}")
         }
         Err(fault) => {
-            let refusal = fault.refusal();
-            let number = refusal.number;
-            let detail = refusal.detail;
+            let Refusal { number, detail, .. } = Refusal::from(fault);
             println!(rt;
                 "turn {arriving} {leaving}: should be {want}; came refused {number} {detail}"
             )
         }
+    }
+}
+
+// An edge of ten metres that keeps its bearing.
+fn straight(start: u32, end: u32, bearing: u32) -> NewEdge {
+    NewEdge {
+        start,
+        end,
+        length: 100,
+        leaving: bearing,
+        arriving: bearing,
     }
 }
 
@@ -44,11 +54,11 @@ fn show_slots(rt: &HostRuntime, degree: u32, want: u32) -> io::Result<()> {
     };
     let mut rows = [EdgeRow::EMPTY; 8];
     let mut drawing = Drawing::new(limits, &mut rows);
-    let _ = drawing.draw(0, 1, 100, 90, 90);
-    let _ = drawing.draw(1, 2, 100, 90, 90);
-    let _ = drawing.draw(1, 3, 100, 0, 0);
+    let _ = drawing.draw(straight(0, 1, 90));
+    let _ = drawing.draw(straight(1, 2, 90));
+    let _ = drawing.draw(straight(1, 3, 0));
     for end in 4..degree.min(8) + 2 {
-        let _ = drawing.draw(1, end, 100, 180, 180);
+        let _ = drawing.draw(straight(1, end, 180));
     }
     let came = Slots.charge(&drawing, 0, 2);
     drawing.release();

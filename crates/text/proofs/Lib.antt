@@ -1,4 +1,3 @@
-pub mod Carrying
 pub mod Once
 pub mod Parting
 pub mod Playing

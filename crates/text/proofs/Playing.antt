@@ -3,13 +3,13 @@ use Rattle.std.proofs.Common.{◌≡◌, ℕ, ◌+◌, List, [], ◌∷◌, ◌+
 use Rattle.std.proofs.lemmas.Result.{MatchResult-weaker}
 use Rattle.std.proofs.lemmas.List.{append_assoc, append-nil, drop_all, length-append, take-append-le, take_all}
 use Rattle.turns.specs.Sectors.{Limits}
-use Rattle.plan.specs.Plans.{lender_of, plan_of, rows_of, spare_of}
+use Rattle.plan.specs.Plans.{Over, lender_of, plan_of, rows_of, spare_of}
 use Rattle.plan.specs.Studies.{Study, begun, study_of}
 use Rattle.plan.specs.declared.drawing.Drawing.{Drawing}
 use Rattle.plan.specs.declared.row.EdgeRow.{EdgeRow}
 use Rattle.text.specs.Plays.{Answered, OnlyText, Played, Plays, PlaysSome}
 use Rattle.text.specs.Replies.{reply_text}
-use Rattle.text.specs.Runs.{Ended, Ends, Moment, Over, Stopped, Stops, Went, left_of, moment, newly, taken_of}
+use Rattle.text.specs.Runs.{Ended, Ends, Moment, Stopped, Stops, Went, left_of, moment, newly, taken_of}
 use Rattle.text.specs.declared.lines.Lines.{Lines}
 use Rattle.text.specs.declared.reply.Reply.{Reply}
 use Rattle.text.proofs.Once.{played_once}

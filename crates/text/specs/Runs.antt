@@ -3,7 +3,6 @@
 -- Glossary
 --   left_of l, taken_of l   the lines that are not taken yet, and the number of those that are
 --   begun_with r            the answer r of beginning a drawing, with the limits as plain numbers
---   Over rows d             the spare rows of the drawing d lie as in `rows`, the list that it was made over
 --   Moment                  where a play stands: its state, the number of lines taken, the lines left and the text of the replies so far
 --   moment st l text        the moment in the state st, with the lines l before it, after the text
 --   moment_over d sheet l text   the same in the study that the drawing d and the bytes of the sheet are
@@ -13,10 +12,9 @@
 --   newly l rows sheet      the study of a new drawing: the limits l, so many rows, no edges, and the sheet as it is
 --   Ended, Stopped          the same, with what the lists hold then, where the rows were rows₀
 -- Assumes nothing.
-use Rattle.std.specs.Prelude.{◌≡◌, ℕ, ◌+◌, List, [], ◌++◌, length, drop, Some, Ok, Err, Option, Result}
+use Rattle.std.specs.Prelude.{◌≡◌, ℕ, ◌+◌, List, [], ◌++◌, length, Some, Ok, Err, Option, Result}
 use Rattle.turns.specs.Sectors.{Limits, limits_of}
 use Rattle.turns.specs.declared.sectors.Sectors.{Sectors}
-use Rattle.plan.specs.Plans.{plan_of, spare_of}
 use Rattle.plan.specs.declared.drawing.Drawing.{Drawing}
 use Rattle.plan.specs.declared.row.EdgeRow.{EdgeRow}
 use Rattle.plan.specs.Studies.{Study, study_of}
@@ -34,9 +32,6 @@ taken_of l = l.taken
 abbrev pub begun_with : Result Sectors TextFault → Result Limits TextFault
 begun_with (Ok x) = Ok (limits_of x)
 begun_with (Err f) = Err f
-
-abbrev pub Over : List EdgeRow → Drawing → Type 0
-Over rows d = spare_of d ≡ drop (length (plan_of d).edges) rows
 
 pub record Moment : Type 0 where
   pub state : Option Study

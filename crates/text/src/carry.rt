@@ -1,15 +1,15 @@
 // The calls that lines ask for.
 ghost use Rattle.std.specs.Prelude.{◌≡◌, List};
-ghost use Rattle.plan.specs.Plans.{lender_of};
+ghost use Rattle.plan.specs.Plans.{Over, lender_of};
 ghost use Rattle.plan.specs.Studies.{study_of};
 ghost use Rattle.plan.specs.declared.row.EdgeRow.{EdgeRow as Row};
 ghost use Rattle.text.specs.Plays.{asked, begins, moved};
-ghost use Rattle.text.specs.Runs.{Over, begun_with};
+ghost use Rattle.text.specs.Runs.{begun_with};
 
 use crate::fault::TextFault;
 use crate::line::Line;
 use crate::reply::Reply;
-use plan::{Drawing, close, open};
+use plan::{Change, Drawing, NewEdge, apply};
 use turns::Sectors;
 
 // The limits that a line begins a drawing with; else the fault of that line, where no drawing is begun.
@@ -33,29 +33,27 @@ pub(crate) fn carry_out(
     ensures over { (rows : List Row) → Over rows drawing.old → Over rows drawing.new }
     ensures lender { lender_of drawing.new ≡ lender_of drawing.old }
 {
-    match line {
-        Line::Sectors { .. } => Err(TextFault::Field(1)),
+    let change = match line {
+        Line::Sectors { .. } => return Err(TextFault::Field(1)),
         Line::Edge {
             start,
             end,
             length,
             leaving,
             arriving,
-        } => {
-            let edge = drawing.draw(start, end, length, leaving, arriving)?;
-            Ok(Reply::Edge(edge))
-        }
-        Line::Close { edge } => {
-            close(drawing, sheet, edge)?;
-            Ok(Reply::Done)
-        }
-        Line::Open { edge } => {
-            open(drawing, sheet, edge)?;
-            Ok(Reply::Done)
-        }
-        Line::Measure { edge, length } => {
-            drawing.measure(edge, length)?;
-            Ok(Reply::Done)
-        }
+        } => Change::Draw(NewEdge {
+            start,
+            end,
+            length,
+            leaving,
+            arriving,
+        }),
+        Line::Close { edge } => Change::Close { edge },
+        Line::Open { edge } => Change::Open { edge },
+        Line::Measure { edge, length } => Change::Measure { edge, length },
+    };
+    match apply(drawing, sheet, change)? {
+        Some(edge) => Ok(Reply::Edge(edge)),
+        None => Ok(Reply::Done),
     }
 }

@@ -25,7 +25,7 @@ impl TextFault {
         let (number, detail) = match self {
             TextFault::Field(place) => (12, place),
             TextFault::Long => (13, 0),
-            TextFault::Plan(fault) => return fault.refusal(),
+            TextFault::Plan(fault) => return Refusal::from(fault),
         };
         let layer = Layer::Text;
         Refusal {

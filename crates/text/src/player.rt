@@ -1,14 +1,14 @@
 // Playing a log.
 ghost use Rattle.std.specs.Prelude.{◌≡◌, ℕ, ◌<◌, ◌≤◌, List, [], ◌∷◌, ◌++◌, length, replicate, IfOk, Some as Just, None as Nothing, string_bytes, MatchOption, MatchResult, OnOk};
 ghost use Rattle.turns.specs.Sectors.{limits_of};
-ghost use Rattle.plan.specs.Plans.{lender_of};
+ghost use Rattle.plan.specs.Plans.{Over, lender_of};
 ghost use Rattle.plan.specs.Studies.{begun, study_of};
 ghost use Rattle.plan.specs.declared.row.EdgeRow.{EdgeRow as Row};
 ghost use Rattle.text.specs.Faults.{text_refusal};
 ghost use Rattle.text.specs.Pieces.{lines_of};
 ghost use Rattle.text.specs.Plays.{Answered, OnlyText, Plays, PlaysSome, numbered as numbered_as, too_long};
 ghost use Rattle.text.specs.Replies.{reply_text};
-ghost use Rattle.text.specs.Runs.{Ended, Ends, Over, Stopped, Stops, Went, moment, moment_over, newly};
+ghost use Rattle.text.specs.Runs.{Ended, Ends, Stopped, Stops, Went, moment, moment_over, newly};
 ghost use Rattle.text.specs.declared.reply.Reply.TheVariants.{Done, Refused};
 
 use crate::carry::{begin, carry_out};
