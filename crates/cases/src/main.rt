@@ -11,11 +11,9 @@ use std::io;
 use turns::{Sectors, turn};
 
 // The worked examples that are proved.
-fn worked_examples_hold() -> u8
+fn worked_examples_hold()
     ensures { Worked }
-{
-    0
-}
+{}
 
 // The angle and the class of a turn under the limits 20, 60 and 120.
 fn show_turn(rt: &HostRuntime, arriving: u32, leaving: u32, want: &str) -> io::Result<()> {
@@ -79,7 +77,7 @@ fn show_weights(rt: &HostRuntime, wd: u32, wu: u32, want: &str) -> io::Result<()
 }
 
 fn main(rt: HostRuntime) -> io::Result<()> {
-    let _held = worked_examples_hold();
+    worked_examples_hold();
     show_turn(&rt, 60, 0, "-60 4")?;
     show_turn(&rt, 0, 120, "120 2")?;
     show_turn(&rt, 0, 360, "refused 5 360")?;
