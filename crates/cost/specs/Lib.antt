@@ -2,6 +2,7 @@ pub mod Rows
 pub mod Orders
 pub mod Adding
 pub mod Reading
+pub mod Sums
 pub mod Charges
 pub mod Distances
 pub mod Faults
