@@ -38,10 +38,6 @@ impl Measure for Charges {
 
     ghost reached = { Prim.search rules };
 
-    fn read(&self) -> Charges {
-        *self
-    }
-
     fn most(&self) -> u32 {
         MOST_CHARGE
     }

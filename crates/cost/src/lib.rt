@@ -13,11 +13,11 @@ mod tally;
 mod weighted;
 
 pub use charge::{Charge, Charges};
-pub use distance::Distance;
+pub use distance::{Distance, Lengths};
 pub use fault::CostFault;
 pub use kind::CostKind;
 pub use measure::Measure;
 pub use ranked::Ranked;
 pub use sum::Sum;
 pub use tally::Tally;
-pub use weighted::Weighted;
+pub use weighted::{Weighing, Weighted};

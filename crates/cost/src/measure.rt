@@ -15,9 +15,12 @@ pub trait Measure: Copy {
     // What a charge and a length add, under these settings.
     ghost amount: { Settings → ℕ → ℕ → ℕ };
 
-    /// The measure as it is read: it stores the settings that it means.
+    /// A measure that means the same, as an empty cost takes it on.
     fn read(&self) -> Self
-        ensures same { settings result ≡ settings self.now };
+        ensures same { settings result ≡ settings self.now }
+    {
+        *self
+    }
 
     /// The most that one addition adds.
     fn most(&self) -> u32
