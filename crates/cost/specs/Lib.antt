@@ -11,3 +11,4 @@ pub mod Tallies
 pub mod Rankings
 pub mod AddLaws
 pub mod RowLaws
+pub mod Kinds
