@@ -12,3 +12,4 @@ pub mod Rankings
 pub mod AddLaws
 pub mod RowLaws
 pub mod Kinds
+pub mod FaultLaws
