@@ -24,19 +24,15 @@ pub struct Slots;
 impl TurnRule for Slots {
     const MOST: u32 = 21;
 
-    ghost charge = { λ rule p e f. slots_charge p e f };
+    ghost MOST = { 21 };
 
-    ghost most = { 21 };
+    ghost charge = { λ rule p e f. slots_charge p e f };
 
     ghost bounded = { λ rule p e f s. slots_bound p e f s };
 
     ghost small = { Prim.search rules };
 
     ghost idle = { Prim.search rules };
-
-    fn largest() -> u32 {
-        Self::MOST
-    }
 
     fn charge(&self, drawing: &Drawing<'_>, from: u32, to: u32) -> u32 {
         match drawing.step(from, to) {
