@@ -13,9 +13,7 @@ pub(crate) fn other_steps(drawing: &Drawing<'_>, from: u32, to: u32, class: Clas
 {
     let mut count = 0;
     for (at, _row) in drawing.edges().iter().enumerate() {
-        if is_other(drawing, from, to, class, at as u32) {
-            count += 1;
-        }
+        count += u32::from(is_other(drawing, from, to, class, at as u32));
     }
     count
 }
