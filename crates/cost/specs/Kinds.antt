@@ -26,11 +26,13 @@ distance_kind = sum_by lengths
 abbrev pub weighted_kind : Kind (Sum Weighing)
 weighted_kind = sum_by weighing
 
+-- each has one place, and the row, the additions and the amount of its own definitions
 pub charge_is : (c : Sum Charges) (u d : ℕ) → (charge_kind.places ≡ 1) × (charge_kind.row c ≡ charge_row c) × (charge_kind.additions c ≡ charge_additions c) × (charge_kind.amount (charge_kind.settings c) u d ≡ charge_amount tt u d)
 charge_is c u d = (refl, refl, refl, refl)
 
 pub distance_is : (c : Sum Lengths) (u d : ℕ) → (distance_kind.places ≡ 1) × (distance_kind.row c ≡ distance_row c) × (distance_kind.additions c ≡ distance_additions c) × (distance_kind.amount (distance_kind.settings c) u d ≡ distance_amount tt u d)
 distance_is c u d = (refl, refl, refl, refl)
 
+-- this one has the settings of its own definition too
 pub weighted_is : (c : Sum Weighing) (s : Weights) (u d : ℕ) → (weighted_kind.places ≡ 1) × (weighted_kind.settings c ≡ weights c) × (weighted_kind.row c ≡ weighted_row c) × (weighted_kind.additions c ≡ weighted_additions c) × (weighted_kind.amount s u d ≡ weighted_amount s u d)
 weighted_is c s u d = (refl, refl, refl, refl, refl)

@@ -25,6 +25,7 @@ impl Sum<Charges> {
     }
 }
 
+/// An addition adds its charge.
 impl Measure for Charges {
     ghost Settings = { Unit {0} };
 

@@ -25,6 +25,7 @@ impl Sum<Lengths> {
     }
 }
 
+/// An addition adds its length.
 impl Measure for Lengths {
     ghost Settings = { Unit {0} };
 

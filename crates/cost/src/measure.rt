@@ -15,7 +15,7 @@ pub trait Measure: Copy {
     // What a charge and a length add, under these settings.
     ghost amount: { Settings → ℕ → ℕ → ℕ };
 
-    /// A measure that means the same, as an empty cost takes it on.
+    /// The measure as it is read, with the same settings: an empty cost takes it on.
     fn read(&self) -> Self
         ensures same { settings result ≡ settings self.now }
     {

@@ -44,6 +44,7 @@ impl Sum<Weighing> {
     }
 }
 
+/// An addition adds its length times the distance weight and its charge times the charge weight.
 impl Measure for Weighing {
     ghost Settings = { Weights };
 
