@@ -24,6 +24,10 @@ addable_fewer u d n m r h k e =
 pub held_allowed : (most n x m : ℕ) → most ≤ m → held most n x ≤ count n * m
 held_allowed most n x m h = le_trans (min-le_right x (count n * most)) (mul-le-mul_left (count n) h)
 
+-- so it is where what one addition adds there reaches the most
+pub held_reached : (most n x m a : ℕ) → a ≡ most → a ≤ m → held most n x ≤ count n * m
+held_reached most n x m a e h = held_allowed most n x m (omega (arith, e, h))
+
 pub held_bound : (most n x : ℕ) → held most n x ≤ 1024 * most
 held_bound most n x =
     le_trans (min-le_right x (count n * most)) (mul-le-mul_right most (min-le_right n 1024))

@@ -8,12 +8,13 @@
 use Rattle.std.specs.Prelude.{ℕ, [], ◌∷◌}
 use Rattle.cost.specs.Rows.{Row}
 use Rattle.cost.specs.Reading.{count, held}
-use Rattle.cost.specs.declared.charge.Charge.{Charge}
+use Rattle.cost.specs.declared.charge.Charges.{Charges}
+use Rattle.cost.specs.declared.sum.Sum.{Sum}
 
-abbrev pub charge_additions : Charge → ℕ
+abbrev pub charge_additions : Sum Charges → ℕ
 charge_additions c = count c.additions
 
-abbrev pub charge_row : Charge → Row
+abbrev pub charge_row : Sum Charges → Row
 charge_row c = held 1000 c.additions c.sum ∷ []
 
 abbrev pub charge_amount : Unit {0} → ℕ → ℕ → Row

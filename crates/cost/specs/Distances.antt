@@ -8,12 +8,13 @@
 use Rattle.std.specs.Prelude.{ℕ, [], ◌∷◌}
 use Rattle.cost.specs.Rows.{Row}
 use Rattle.cost.specs.Reading.{count, held}
-use Rattle.cost.specs.declared.distance.Distance.{Distance}
+use Rattle.cost.specs.declared.distance.Lengths.{Lengths}
+use Rattle.cost.specs.declared.sum.Sum.{Sum}
 
-abbrev pub distance_additions : Distance → ℕ
+abbrev pub distance_additions : Sum Lengths → ℕ
 distance_additions c = count c.additions
 
-abbrev pub distance_row : Distance → Row
+abbrev pub distance_row : Sum Lengths → Row
 distance_row c = held 100000 c.additions c.sum ∷ []
 
 abbrev pub distance_amount : Unit {0} → ℕ → ℕ → Row

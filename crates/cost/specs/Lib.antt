@@ -2,6 +2,7 @@ pub mod Rows
 pub mod Orders
 pub mod Adding
 pub mod Reading
+pub mod Sums
 pub mod Charges
 pub mod Distances
 pub mod Faults
@@ -10,3 +11,5 @@ pub mod Tallies
 pub mod Rankings
 pub mod AddLaws
 pub mod RowLaws
+pub mod Kinds
+pub mod FaultLaws

@@ -6,7 +6,7 @@
 --   tally_row c                  the three places of c: how many of its charges were heavy, middle and light, each at most one for each addition
 --   tally_amount s u d           what the charge u and the length d add: one more at the place of the charge, and nothing at a charge of 0
 -- Assumes nothing.
-use Rattle.std.specs.Prelude.{ℕ, cond, [], ◌∷◌, nat_le}
+use Rattle.std.specs.Prelude.{ℕ, cond, [], ◌∷◌, nat_le, slice_index}
 use Rattle.cost.specs.Rows.{Row}
 use Rattle.cost.specs.Reading.{count, held}
 use Rattle.cost.specs.declared.tally.Tally.{Tally}
@@ -24,7 +24,7 @@ abbrev pub tally_additions : Tally → ℕ
 tally_additions c = count c.additions
 
 abbrev pub tally_row : Tally → Row
-tally_row c = held 1 c.additions c.heavy ∷ held 1 c.additions c.middle ∷ held 1 c.additions c.light ∷ []
+tally_row c = held 1 c.additions (slice_index c.counts 0) ∷ held 1 c.additions (slice_index c.counts 1) ∷ held 1 c.additions (slice_index c.counts 2) ∷ []
 
 abbrev pub tally_amount : Unit {0} → ℕ → ℕ → Row
 tally_amount s u d = heavy u ∷ middle u ∷ light u ∷ []

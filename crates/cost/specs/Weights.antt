@@ -2,7 +2,8 @@
 --
 -- Glossary
 --   Weights                 the two weights: how much a unit of length and a unit of charge count
---   weights c               the weights that c means: those that it stores, and 100 where one is above that
+--   weights_read m          the weights that m means: those that it stores, and 100 where one is above that
+--   weights c               the weights that c means, those of its measure
 --   weighted_most s         the most that one addition adds at the weights s
 --   weighted_additions c    the additions that c means
 --   weighted_row c          the one place of c: its weighted sum, at most what its weights and additions allow
@@ -14,22 +15,26 @@ use Rattle.cost.specs.Rows.{Row}
 use Rattle.cost.specs.Reading.{count, held}
 use Rattle.cost.specs.declared.fault.CostFault.{CostFault}
 use Rattle.cost.specs.declared.fault.CostFault.TheVariants.{Weight}
-use Rattle.cost.specs.declared.weighted.Weighted.{Weighted}
+use Rattle.cost.specs.declared.sum.Sum.{Sum}
+use Rattle.cost.specs.declared.weighted.Weighing.{Weighing}
 
 pub record Weights : Type 0 where
   pub distance : ℕ
   pub charge : ℕ
 
-abbrev pub weights : Weighted → Weights
-weights c = record { distance = min c.distance 100; charge = min c.charge 100 }
+abbrev pub weights_read : Weighing → Weights
+weights_read m = record { distance = min m.distance 100; charge = min m.charge 100 }
+
+abbrev pub weights : Sum Weighing → Weights
+weights c = weights_read c.measure
 
 abbrev pub weighted_most : Weights → ℕ
 weighted_most s = s.distance * 100000 + s.charge * 1000
 
-abbrev pub weighted_additions : Weighted → ℕ
+abbrev pub weighted_additions : Sum Weighing → ℕ
 weighted_additions c = count c.additions
 
-abbrev pub weighted_row : Weighted → Row
+abbrev pub weighted_row : Sum Weighing → Row
 weighted_row c = held (weighted_most (weights c)) c.additions c.sum ∷ []
 
 abbrev pub weighted_amount : Weights → ℕ → ℕ → Row

@@ -1,83 +1,49 @@
 // The kind of cost that adds up the charges.
-ghost use Rattle.cost.specs.Charges.{charge_additions, charge_row, charge_amount};
+ghost use Rattle.cost.specs.Charges.{charge_additions, charge_row};
 ghost use Rattle.cost.specs.Rows.{zeros};
-ghost use Rattle.std.specs.Prelude.{◌≡◌, zero, suc};
-ghost use Rattle.std.proofs.Common.{zero-le, lit≤, rules};
-ghost use Rattle.cost.specs.AddLaws.{held_allowed};
+ghost use Rattle.std.specs.Prelude.{◌≡◌};
+ghost use Rattle.std.proofs.Common.{rules};
 
-use crate::kind::CostKind;
-use crate::reading::{MOST_CHARGE, addable, count, place, raised};
-use std::cmp::Ordering;
+use crate::measure::Measure;
+use crate::reading::MOST_CHARGE;
+use crate::sum::Sum;
+
+/// Measures a step by its charge.
+#[derive(Clone, Copy)]
+pub struct Charges;
 
 /// The sum of the charges.
-#[derive(Clone, Copy)]
-pub struct Charge {
-    additions: u32,
-    sum: u64,
-}
+pub type Charge = Sum<Charges>;
 
-impl Charge {
+impl Sum<Charges> {
     /// The empty cost.
     pub fn new() -> Charge
         ensures count { charge_additions result ≡ 0 }
         ensures zero { charge_row result ≡ zeros 1 }
     {
-        Charge {
-            additions: 0,
-            sum: 0,
-        }
+        Sum::by(Charges)
     }
 }
 
-/// One place; an addition adds its charge.
-impl CostKind for Charge {
+/// An addition adds its charge.
+impl Measure for Charges {
     ghost Settings = { Unit {0} };
 
     ghost settings = { λ _. tt };
 
-    ghost places = { 1 };
+    ghost most = { λ s. 1000 };
 
-    ghost row = { charge_row };
+    ghost amount = { λ s u d. u };
 
-    ghost additions = { charge_additions };
+    ghost within = { Prim.search rules };
 
-    ghost amount = { charge_amount };
+    ghost reached = { Prim.search rules };
 
-    ghost even = { Prim.search rules };
-
-    ghost measured = { Prim.search rules };
-
-    ghost few = { Prim.search rules };
-
-    ghost allowed = { λ c.
-        elim [
-          | zero ↦ λ m h. held_allowed 1000 c.additions c.sum m (h 1000 0 (lit≤ tt) (lit≤ tt))
-          | suc k ↦ λ m h. zero-le
-        ] };
-
-    fn empty(&self) -> Charge {
-        Charge::new()
+    fn most(&self) -> u32 {
+        MOST_CHARGE
     }
 
-    fn additions(&self) -> u32 {
-        count(self.additions)
-    }
-
-    fn compare(&self, other: &Charge) -> Ordering {
-        place(MOST_CHARGE, self.additions, self.sum).cmp(&place(
-            MOST_CHARGE,
-            other.additions,
-            other.sum,
-        ))
-    }
-
-    fn add(&mut self, charge: u32, length: u32) -> bool {
-        let additions = self.additions();
-        if !addable(charge, length, additions) {
-            return false;
-        }
-        self.sum = raised(MOST_CHARGE, self.additions, self.sum, charge as u64);
-        self.additions = additions + 1;
-        true
+    fn amount(&self, charge: u32, length: u32) -> u64 {
+        u64::from(charge)
     }
 }

@@ -24,7 +24,7 @@ pub fn count(stored: u32) -> u32
 pub fn place(most: u32, additions: u32, stored: u64) -> u64
     ensures value { result ≡ held most additions stored }
 {
-    stored.min(count(additions) as u64 * most as u64)
+    stored.min(u64::from(count(additions)) * u64::from(most))
 }
 
 /// What is to be stored at a place after one more addition, of which at most `most` counts there.
@@ -32,7 +32,7 @@ pub fn raised(most: u32, additions: u32, stored: u64, amount: u64) -> u64
     ensures value { result ≡ held most additions stored + min amount most }
     ensures after { count additions < 1024 → held most (count additions + 1) result ≡ result }
 {
-    place(most, additions, stored) + amount.min(most as u64)
+    place(most, additions, stored) + amount.min(u64::from(most))
 }
 
 /// Whether a cost with so many additions takes this charge and this length.

@@ -1,21 +1,19 @@
 // The kind of cost that counts charges by how heavy they are.
 ghost use Rattle.cost.specs.Rows.{zeros};
 ghost use Rattle.cost.specs.Tallies.{tally_additions, tally_amount, tally_row};
-ghost use Rattle.std.specs.Prelude.{◌≡◌, zero, suc};
+ghost use Rattle.std.specs.Prelude.{◌≡◌, zero, suc, slice_index};
 ghost use Rattle.std.proofs.Common.{zero-le, lit≤, rules};
 ghost use Rattle.cost.specs.AddLaws.{held_allowed};
 
 use crate::kind::CostKind;
-use crate::reading::{addable, count, place, raised};
+use crate::reading::{addable, count, place};
 use std::cmp::Ordering;
 
 /// How many charges were 8 or more, how many 4 to 7 and how many 1 to 3.
 #[derive(Clone, Copy)]
 pub struct Tally {
     additions: u32,
-    heavy: u64,
-    middle: u64,
-    light: u64,
+    counts: [u64; 3],
 }
 
 impl Tally {
@@ -26,9 +24,7 @@ impl Tally {
     {
         Tally {
             additions: 0,
-            heavy: 0,
-            middle: 0,
-            light: 0,
+            counts: [0; 3],
         }
     }
 
@@ -36,23 +32,7 @@ impl Tally {
     fn row(&self) -> [u64; 3]
         ensures value { result ≡ tally_row self.now }
     {
-        [
-            place(1, self.additions, self.heavy),
-            place(1, self.additions, self.middle),
-            place(1, self.additions, self.light),
-        ]
-    }
-}
-
-// One at the place of the charge.
-fn mark(charge: u32) -> [u64; 3]
-    ensures value { result ≡ tally_amount tt charge 0 }
-{
-    match charge {
-        0 => [0, 0, 0],
-        1..=3 => [0, 0, 1],
-        4..=7 => [0, 1, 0],
-        _ => [1, 0, 0],
+        self.counts.map(|stored| place(1, self.additions, stored))
     }
 }
 
@@ -78,9 +58,9 @@ impl CostKind for Tally {
 
     ghost allowed = { λ c.
         elim [
-          | zero ↦ λ m h. held_allowed 1 c.additions c.heavy m (h 8 0 (lit≤ tt) (lit≤ tt))
-          | suc zero ↦ λ m h. held_allowed 1 c.additions c.middle m (h 4 0 (lit≤ tt) (lit≤ tt))
-          | suc (suc zero) ↦ λ m h. held_allowed 1 c.additions c.light m (h 1 0 (lit≤ tt) (lit≤ tt))
+          | zero ↦ λ m h. held_allowed 1 c.additions (slice_index c.counts 0) m (h 8 0 (lit≤ tt) (lit≤ tt))
+          | suc zero ↦ λ m h. held_allowed 1 c.additions (slice_index c.counts 1) m (h 4 0 (lit≤ tt) (lit≤ tt))
+          | suc (suc zero) ↦ λ m h. held_allowed 1 c.additions (slice_index c.counts 2) m (h 1 0 (lit≤ tt) (lit≤ tt))
           | suc (suc (suc k)) ↦ λ m h. zero-le
         ] };
 
@@ -96,18 +76,21 @@ impl CostKind for Tally {
         self.row().cmp(&other.row())
     }
 
-    fn add(&mut self, charge: u32, length: u32) -> bool {
+    fn add(self, charge: u32, length: u32) -> Option<Tally> {
         let additions = self.additions();
         if !addable(charge, length, additions) {
-            return false;
+            return None;
         }
-        let [heavy, middle, light] = mark(charge);
-        *self = Tally {
+        let mut counts = self.row();
+        match charge {
+            0 => {}
+            1..=3 => counts[2] += 1,
+            4..=7 => counts[1] += 1,
+            _ => counts[0] += 1,
+        }
+        Some(Tally {
             additions: additions + 1,
-            heavy: raised(1, self.additions, self.heavy, heavy),
-            middle: raised(1, self.additions, self.middle, middle),
-            light: raised(1, self.additions, self.light, light),
-        };
-        true
+            counts,
+        })
     }
 }

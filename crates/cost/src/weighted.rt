@@ -1,30 +1,29 @@
 // The kind of cost that adds up weighted lengths and charges.
-ghost use Rattle.std.specs.Prelude.{◌≡◌, zero, suc, ◌+◌, ◌*◌, ◌≤◌, IfOk};
-ghost use Rattle.std.proofs.Common.{zero-le, lit≤, rules};
-ghost use Rattle.cost.specs.Reading.{held};
+ghost use Rattle.std.specs.Prelude.{◌≡◌, ◌+◌, ◌*◌, ◌≤◌, IfOk};
+ghost use Rattle.std.proofs.Common.{add-le-add, mul-le-mul_left, rules};
 ghost use Rattle.cost.specs.Rows.{zeros};
-ghost use Rattle.cost.specs.Weights.{Weights, weights, weight_fault, weighted_additions, weighted_amount, weighted_most, weighted_row};
+ghost use Rattle.cost.specs.Weights.{Weights, weights, weights_read, weight_fault, weighted_additions, weighted_most, weighted_row};
 ghost use Rattle.std.specs.Result.{result_err};
-ghost use Rattle.cost.specs.AddLaws.{held_allowed};
 
 use crate::fault::CostFault;
-use crate::kind::CostKind;
-use crate::reading::{MOST_CHARGE, MOST_LENGTH, addable, count, place, raised};
-use std::cmp::Ordering;
+use crate::measure::Measure;
+use crate::reading::{MOST_CHARGE, MOST_LENGTH};
+use crate::sum::Sum;
 
 /// The largest weight.
 pub const MOST_WEIGHT: u32 = 100;
 
-/// The sum of the lengths and the charges, each by its weight.
+/// Measures a step by its length and its charge, each by its weight.
 #[derive(Clone, Copy)]
-pub struct Weighted {
+pub struct Weighing {
     distance: u32,
     charge: u32,
-    additions: u32,
-    sum: u64,
 }
 
-impl Weighted {
+/// The sum of the lengths and the charges, each by its weight.
+pub type Weighted = Sum<Weighing>;
+
+impl Sum<Weighing> {
     /// The empty cost with these weights; refuses a weight above 100, the distance weight first.
     pub fn new(wd: u32, wu: u32) -> Result<Weighted, CostFault>
         ensures refused { result_err result ≡ weight_fault wd wu }
@@ -38,92 +37,46 @@ impl Weighted {
         if wu > MOST_WEIGHT {
             return Err(CostFault::Weight(wu));
         }
-        Ok(Weighted {
+        Ok(Sum::by(Weighing {
             distance: wd,
             charge: wu,
-            additions: 0,
-            sum: 0,
-        })
-    }
-
-    // What a charge and a length add.
-    fn amount(&self, charge: u32, length: u32) -> u64
-        ensures value { result ≡ (weights self.now).distance * length + (weights self.now).charge * charge }
-        ensures bound { charge ≤ 1000 → length ≤ 100000 → result ≤ weighted_most (weights self.now) }
-    {
-        self.distance.min(MOST_WEIGHT) as u64 * length as u64
-            + self.charge.min(MOST_WEIGHT) as u64 * charge as u64
-    }
-
-    // The most that one addition adds.
-    fn most(&self) -> u32
-        ensures value { result ≡ weighted_most (weights self.now) }
-    {
-        self.distance.min(MOST_WEIGHT) * MOST_LENGTH + self.charge.min(MOST_WEIGHT) * MOST_CHARGE
-    }
-
-    // The sum that the cost means.
-    fn total(&self) -> u64
-        ensures value { result ≡ held (weighted_most (weights self.now)) self.now.additions self.now.sum }
-    {
-        place(self.most(), self.additions, self.sum)
+        }))
     }
 }
 
-/// One place; an addition adds its length times the distance weight and its charge times the charge weight.
-impl CostKind for Weighted {
+/// An addition adds its length times the distance weight and its charge times the charge weight.
+impl Measure for Weighing {
     ghost Settings = { Weights };
 
-    ghost settings = { weights };
+    ghost settings = { weights_read };
 
-    ghost places = { 1 };
+    ghost most = { weighted_most };
 
-    ghost row = { weighted_row };
+    ghost amount = { λ s u d. s.distance * d + s.charge * u };
 
-    ghost additions = { weighted_additions };
+    ghost within = { λ s u d h k. add-le-add (mul-le-mul_left s.distance k) (mul-le-mul_left s.charge h) };
 
-    ghost amount = { weighted_amount };
+    ghost reached = { Prim.search rules };
 
-    ghost even = { Prim.search rules };
-
-    ghost measured = { Prim.search rules };
-
-    ghost few = { Prim.search rules };
-
-    ghost allowed = { λ c.
-        elim [
-          | zero ↦ λ m h. held_allowed (weighted_most (weights c)) c.additions c.sum m (h 1000 100000 (lit≤ tt) (lit≤ tt))
-          | suc k ↦ λ m h. zero-le
-        ] };
-
-    fn empty(&self) -> Weighted {
-        Weighted {
-            additions: 0,
-            sum: 0,
-            ..*self
+    fn read(&self) -> Weighing
+        ensures same { weights_read result ≡ weights_read self.now }
+        ensures distance { result.distance ≡ (weights_read self.now).distance }
+        ensures charge { result.charge ≡ (weights_read self.now).charge }
+    {
+        Weighing {
+            distance: self.distance.min(MOST_WEIGHT),
+            charge: self.charge.min(MOST_WEIGHT),
         }
     }
 
-    fn additions(&self) -> u32 {
-        count(self.additions)
+    fn most(&self) -> u32 {
+        let Weighing { distance, charge } = self.read();
+        distance * MOST_LENGTH + charge * MOST_CHARGE
     }
 
-    fn compare(&self, other: &Weighted) -> Ordering {
-        self.total().cmp(&other.total())
-    }
-
-    fn add(&mut self, charge: u32, length: u32) -> bool {
-        let additions = self.additions();
-        if !addable(charge, length, additions) {
-            return false;
-        }
-        self.sum = raised(
-            self.most(),
-            self.additions,
-            self.sum,
-            self.amount(charge, length),
-        );
-        self.additions = additions + 1;
-        true
+    fn amount(&self, charge: u32, length: u32) -> u64 {
+        let weighing = self.read();
+        u64::from(weighing.distance) * u64::from(length)
+            + u64::from(weighing.charge) * u64::from(charge)
     }
 }

@@ -14,19 +14,15 @@ pub struct Ambiguity;
 impl TurnRule for Ambiguity {
     const MOST: u32 = 15;
 
-    ghost charge = { λ rule p e f. ambiguity_charge p e f };
+    ghost MOST = { 15 };
 
-    ghost most = { 15 };
+    ghost charge = { λ rule p e f. ambiguity_charge p e f };
 
     ghost bounded = { λ rule p e f s. ambiguity_bound p e f s };
 
     ghost small = { Prim.search rules };
 
     ghost idle = { Prim.search rules };
-
-    fn largest() -> u32 {
-        Self::MOST
-    }
 
     fn charge(&self, drawing: &Drawing<'_>, from: u32, to: u32) -> u32 {
         match drawing.step(from, to) {

@@ -13,9 +13,7 @@ pub(crate) fn other_steps(drawing: &Drawing<'_>, from: u32, to: u32, class: Clas
 {
     let mut count = 0;
     for (at, _row) in drawing.edges().iter().enumerate() {
-        if is_other(drawing, from, to, class, at as u32) {
-            count += 1;
-        }
+        count += u32::from(is_other(drawing, from, to, class, at as u32));
     }
     count
 }
@@ -24,11 +22,5 @@ pub(crate) fn other_steps(drawing: &Drawing<'_>, from: u32, to: u32, class: Clas
 fn is_other(drawing: &Drawing<'_>, from: u32, to: u32, class: Class, next: u32) -> bool
     ensures value { result ≡ other (plan_of drawing.now) from class to next }
 {
-    if next == to {
-        return false;
-    }
-    match drawing.step(from, next) {
-        Some(found) => found.code() == class.code(),
-        None => false,
-    }
+    next != to && drawing.step(from, next) == Some(class)
 }

@@ -13,21 +13,24 @@ pub trait TurnRule {
     /// The largest charge of the rule.
     const MOST: u32;
 
+    ghost MOST: { ℕ };
+
     ghost charge: { Self → Plan → ℕ → ℕ → ℕ };
 
-    ghost most: { ℕ };
-
-    /// The largest charge, `MOST`, as a call: it ties the constant to its meaning.
+    /// The largest charge, `MOST`, as a call.
     fn largest() -> u32
-        ensures value { result ≡ most };
+        ensures value { result ≡ MOST }
+    {
+        Self::MOST
+    }
 
     /// The charge of the step from one edge to another, 0 where no step leads there.
     fn charge(&self, drawing: &Drawing<'_>, from: u32, to: u32) -> u32
         ensures value { result ≡ charge self.now (plan_of drawing.now) from to };
 
-    ghost bounded: { (rule : Self) (p : Plan) (e f : ℕ) → Sound p → charge rule p e f ≤ most };
+    ghost bounded: { (rule : Self) (p : Plan) (e f : ℕ) → Sound p → charge rule p e f ≤ MOST };
 
-    ghost small: { most ≤ 1000 };
+    ghost small: { MOST ≤ 1000 };
 
     ghost idle: { (rule : Self) (p : Plan) (e f : ℕ) → steps p e f ≡ false → charge rule p e f ≡ 0 };
 }

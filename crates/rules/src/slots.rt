@@ -1,6 +1,6 @@
 // The rule that weighs a step by the slots of its instruction.
-ghost use Rattle.std.specs.Prelude.{◌≡◌, true, false};
-ghost use Rattle.plan.specs.Plans.{plan_of, steps};
+ghost use Rattle.std.specs.Prelude.{◌≡◌, ◌<◌, ◌≤◌, true, false, length};
+ghost use Rattle.plan.specs.Plans.{degree, edge_at, plan_of, steps};
 ghost use Rattle.rules.specs.Charges.{straight};
 ghost use Rattle.rules.specs.Slots.{slots_charge};
 ghost use Rattle.rules.specs.Bounds.{slots_bound};
@@ -24,19 +24,15 @@ pub struct Slots;
 impl TurnRule for Slots {
     const MOST: u32 = 21;
 
-    ghost charge = { λ rule p e f. slots_charge p e f };
+    ghost MOST = { 21 };
 
-    ghost most = { 21 };
+    ghost charge = { λ rule p e f. slots_charge p e f };
 
     ghost bounded = { λ rule p e f s. slots_bound p e f s };
 
     ghost small = { Prim.search rules };
 
     ghost idle = { Prim.search rules };
-
-    fn largest() -> u32 {
-        Self::MOST
-    }
 
     fn charge(&self, drawing: &Drawing<'_>, from: u32, to: u32) -> u32 {
         match drawing.step(from, to) {
@@ -52,8 +48,7 @@ fn turning_charge(drawing: &Drawing<'_>, from: u32, to: u32) -> u32
     requires { (steps (plan_of drawing.now) from to ≡ true) × (straight (plan_of drawing.now) from to ≡ false) }
     ensures value { result ≡ slots_charge (plan_of drawing.now) from to }
 {
-    let before = drawing.edges()[from as usize];
-    let degree = drawing.degree(u32::from(before.end));
+    let degree = leaving(drawing, from);
     if degree <= NARROW {
         return 4;
     }
@@ -61,4 +56,13 @@ fn turning_charge(drawing: &Drawing<'_>, from: u32, to: u32) -> u32
         return 6;
     }
     5 + degree
+}
+
+// How many edges leave the junction at which an edge ends.
+fn leaving(drawing: &Drawing<'_>, edge: u32) -> u32
+    requires { edge < length (plan_of drawing.now).edges }
+    ensures value { result ≡ degree (plan_of drawing.now) (edge_at (plan_of drawing.now) edge).end }
+    ensures bound { result ≤ 16 }
+{
+    drawing.degree(u32::from(drawing.edges()[edge as usize].end))
 }

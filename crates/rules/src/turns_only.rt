@@ -14,19 +14,15 @@ pub struct Turns;
 impl TurnRule for Turns {
     const MOST: u32 = 1;
 
-    ghost charge = { λ rule p e f. turns_charge p e f };
+    ghost MOST = { 1 };
 
-    ghost most = { 1 };
+    ghost charge = { λ rule p e f. turns_charge p e f };
 
     ghost bounded = { λ rule p e f s. turns_bound p e f };
 
     ghost small = { Prim.search rules };
 
     ghost idle = { Prim.search rules };
-
-    fn largest() -> u32 {
-        Self::MOST
-    }
 
     fn charge(&self, drawing: &Drawing<'_>, from: u32, to: u32) -> u32 {
         match drawing.step(from, to) {
