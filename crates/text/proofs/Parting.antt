@@ -1,23 +1,12 @@
 -- Bytes that a mark parts.
-use Rattle.std.proofs.Common.{◌≡◌, ℕ, zero, suc, ◌+◌, ◌-◌, ◌<◌, ◌≤◌, true, false, eqb, ◌⊎◌, List, [], ◌∷◌, ◌++◌, length, get_or, take, drop, sym, refl, ap, ◌∙◌, inl, inr, arith}
-use Rattle.std.specs.List.{AllByRecursion}
+use Rattle.std.proofs.Common.{◌≡◌, ℕ, zero, suc, ◌+◌, ◌-◌, ◌<◌, ◌≤◌, true, false, eqb, ◌==◌, ◌⊎◌, List, [], ◌∷◌, ◌++◌, length, Some, None, get_or, take, drop, sym, refl, ap, ◌∙◌, inl, inr, arith}
+use Rattle.std.specs.List.{AllByRecursion, position, position_or_len}
 use Rattle.std.proofs.lemmas.List.{get_or-take, length-append, length-take, take-append-drop, take_rest, drop_more}
+use Rattle.std.proofs.lemmas.List.Quantifiers.{position-Some}
+use Rattle.std.proofs.lemmas.List.Sums.{fails_before_first}
+use Rattle.std.proofs.lemmas.Bool.Decides.{nat_tests}
 use Rattle.std.proofs.lemmas.Bool.{cases_Bool, ne_eqb, eq-eqb, eqb-false, eqb-true}
 use Rattle.text.specs.Pieces.{Alone, Fields, Lacks, Leads, grown, joined, lines_of, pieces, split}
-
-module _ (m : ℕ) (xs : List ℕ) (i : ℕ) where
-  -- what stands before the first mark has none
-  pub front_lacks : ((k : ℕ) → k < i → get_or xs k 0 ≡ m → ⊥) → Lacks m (take (i - 0) xs)
-  front_lacks before k h e =
-      let short : k < i = omega (arith, length-take (i - 0) xs) in
-      let inner : k < i - 0 = omega arith in
-      before k short (sym (get_or-take (i - 0) xs k 0 inner) ∙ e)
-
-  -- the mark at i parts the bytes before it from those behind it
-  pub front_and_rest : i < length xs → get_or xs i 0 ≡ m → xs ≡ take (i - 0) xs ++ (m ∷ take (length xs - (i + 1)) (drop (i + 1) xs))
-  front_and_rest h e =
-      let zero : i - 0 ≡ i = omega arith in
-      rw (zero, take_rest xs (i + 1), ← e, ← drop_more xs i 0 h) (sym (take-append-drop i xs))
 
 module _ (m : ℕ) where
   lacks_first : (x : ℕ) (xs : List ℕ) → Lacks m (x ∷ xs) → eqb x m ≡ false
@@ -43,18 +32,26 @@ module _ (m : ℕ) where
   pieces_last (x ∷ y ∷ ys) h some =
       rw (lacks_first x (y ∷ ys) h, pieces_last (y ∷ ys) (lacks_rest x (y ∷ ys) h) (λ e. omega arith))
 
-module _ (m : ℕ) (xs : List ℕ) (i : ℕ) (before : (k : ℕ) → k < i → get_or xs k 0 ≡ m → ⊥) where
-  pub cut_leads : i < length xs → get_or xs i 0 ≡ m → Leads m xs (take (i - 0) xs) (take (length xs - (i + 1)) (drop (i + 1) xs))
-  cut_leads h e =
-      let whole = front_and_rest m xs i h e in
-      let after = take (length xs - (i + 1)) (drop (i + 1) xs) in (
-        λ last. ap (pieces m last) whole ∙ pieces_first m last (take (i - 0) xs) after (front_lacks m xs i before),
-        omega (arith, ap length whole, length-append (take (i - 0) xs) (m ∷ after)),
+module _ (m : ℕ) (xs : List ℕ) where
+  -- the first mark parts the bytes before it, which have none, from those behind it
+  pub cut_leads : (i : ℕ) → Some i ≡ position (λ b. b == m) xs → Leads m xs (take (i - 0) xs) (take (length xs - (i + 1)) (drop (i + 1) xs))
+  cut_leads i e =
+      let (inside, here, before) = position-Some (λ b. b == m) xs i 0 (sym e) in
+      let front : Lacks m (take (i - 0) xs) =
+      λ k h is. let below : k < i = omega (arith, length-take (i - 0) xs) in let other = before k below in eqb-false (get_or xs k 0) m other (sym (get_or-take (i - 0) xs k 0 (omega arith)) ∙ is) in
+      let behind = take (length xs - (i + 1)) (drop (i + 1) xs) in
+      let zero : i - 0 ≡ i = omega arith in
+      let whole : xs ≡ take (i - 0) xs ++ (m ∷ behind) =
+      rw (zero, take_rest xs (i + 1), ← (eqb-true (get_or xs i 0) m here), ← drop_more xs i 0 inside) (sym (take-append-drop i xs)) in (
+        λ last. ap (pieces m last) whole ∙ pieces_first m last (take (i - 0) xs) behind front,
+        omega (arith, ap length whole, length-append (take (i - 0) xs) (m ∷ behind)),
       )
 
-  pub cut_alone : length xs ≤ i → Alone m xs xs
-  cut_alone all =
-      let clean : Lacks m xs = λ k h. before k (omega arith) in
+  pub cut_alone : None ≡ position (λ b. b == m) xs → Alone m xs xs
+  cut_alone e =
+      let all : length xs ≤ position_or_len (λ b. b == m) xs = grind (arith, nat_tests) in
+      let clean : Lacks m xs =
+      λ k h is. let other = fails_before_first (λ b. b == m) xs k 0 (omega arith) in eqb-false (get_or xs k 0) m other is in
       (pieces_one m xs clean, λ some. pieces_last m xs clean (λ e. omega arith))
 
 -- nothing has no lines

@@ -42,7 +42,7 @@ pub fn play(
         put(&mut text, numbered(Err(TextFault::Long), 0))?;
         return Ok(text);
     }
-    clear(sheet);
+    sheet.fill(0);
     let mut lines = Lines::new(log);
     match play_opening(&mut lines, &mut text)? {
         None => Ok(text),
@@ -50,15 +50,6 @@ pub fn play(
             play_drawn(limits, rows, sheet, &mut lines, &mut text)?;
             Ok(text)
         }
-    }
-}
-
-// Opens every edge of a sheet.
-fn clear(sheet: &mut [u8])
-    ensures after { sheet.new ≡ replicate (length sheet.old) 0 }
-{
-    for byte in sheet.iter_mut() {
-        *byte = 0;
     }
 }
 
@@ -151,8 +142,5 @@ fn numbered(answer: Result<Reply, TextFault>, line: u32) -> Reply
 fn put(text: &mut String, reply: Reply) -> Result<(), AllocError>
     ensures bytes { OnOk result (string_bytes text.new ≡ string_bytes text.old ++ (reply_text reply ++ (10 ∷ []))) }
 {
-    match writeln!(text, "{reply}") {
-        Ok(()) => Ok(()),
-        Err(_) => Err(AllocError),
-    }
+    writeln!(text, "{reply}")
 }
