@@ -52,8 +52,8 @@ impl<'a> Cursor<'a> {
     {
         let mut found = [0; N];
         let mut place = first;
-        for i in 0..N {
-            found[i] = self.number(place)?;
+        for n in found.iter_mut() {
+            *n = self.number(place)?;
             place += 1;
         }
         match self.next() {
