@@ -3,8 +3,10 @@ use Rattle.std.proofs.Common.{◌≡◌, ℕ, zero, suc, ◌+◌, ◌-◌, ◌<�
 use Rattle.std.specs.List.{AllByRecursion}
 use Rattle.std.proofs.ByRecursion.{All-push}
 use Rattle.std.proofs.lemmas.List.{drop_more, length-set, length-take-le, map_push, take_all, take_more_set}
+use Rattle.text.specs.Faults.{AtField}
 use Rattle.text.specs.Numbers.{Number, Numbers, Small, from}
 use Rattle.text.specs.Shapes.{Misses, MissesFrom, Unlike}
+use Rattle.text.specs.declared.fault.TextFault.TheVariants.{Field}
 
 -- numbers in front of the first wrong field
 pub misses_more : (ns : List ℕ) (N m K k : ℕ) (rest : List (List ℕ)) → N ≡ length ns + m → K ≡ length ns + k → AllByRecursion Small ns → Misses (replicate m Number) rest k → Misses (replicate N Number) (map decimal ns ++ rest) K
@@ -48,16 +50,16 @@ module _ (N first : ℕ) (all left : List (List ℕ)) (found : List ℕ) (i plac
       }
 
   -- the field at place is missing or no number
-  pub read_miss : i < N → Unlike Number left → MissesFrom first (replicate N Number) all place
+  pub read_miss : i < N → Unlike Number left → AtField (MissesFrom first (replicate N Number) all) (Field place)
   read_miss below wrong =
       let e = read_size (omega arith) in
-      (i, h.here, rw h.front (misses_more (take i found) N (suc (N - i - 1)) i 0 left (omega arith) (omega arith) h.small wrong))
+      (place, refl, (i, h.here, rw h.front (misses_more (take i found) N (suc (N - i - 1)) i 0 left (omega arith) (omega arith) h.small wrong)))
 
   -- there is a field at place, and it is one too many
-  pub read_surplus : i ≡ N → (f : List ℕ) (rest : List (List ℕ)) → left ≡ f ∷ rest → MissesFrom first (replicate N Number) all place
+  pub read_surplus : i ≡ N → (f : List ℕ) (rest : List (List ℕ)) → left ≡ f ∷ rest → AtField (MissesFrom first (replicate N Number) all) (Field place)
   read_surplus done f rest next =
       let e = read_size (omega arith) in
-      (i, h.here, rw (h.front, next) (misses_more (take i found) N 0 i 0 (f ∷ rest) (omega arith) (omega arith) h.small refl))
+      (place, refl, (i, h.here, rw (h.front, next) (misses_more (take i found) N 0 i 0 (f ∷ rest) (omega arith) (omega arith) h.small refl)))
 
   pub read_all : i ≡ N → left ≡ [] → Numbers N all found
   read_all done next =

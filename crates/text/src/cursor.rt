@@ -1,9 +1,12 @@
 // A walk over the fields of a line.
 ghost use Rattle.std.specs.Prelude.{◌≡◌, ◌+◌, ◌^◌, ◌<◌, [], ◌∷◌, replicate, decimal, MatchOption, MatchResult};
+ghost use Rattle.text.specs.Faults.{AtField};
+ghost use Rattle.text.specs.declared.fault.TextFault.TheVariants.{Field};
 ghost use Rattle.text.specs.Numbers.{Number, Numbers, Small};
 ghost use Rattle.text.specs.Pieces.{split};
 ghost use Rattle.text.specs.Shapes.{MissesFrom, Unlike, fields_left};
 
+use super::fault::TextFault;
 use super::log::{TAB, cut};
 use super::number::number;
 
@@ -31,24 +34,20 @@ impl<'a> Cursor<'a> {
         Some(field)
     }
 
-    /// The next field as a number, or its place.
-    pub(crate) fn number(&mut self, place: u32) -> Result<u32, u32>
-        ensures cases { MatchResult result (λ n. Small n × (fields_left self.old ≡ decimal n ∷ fields_left self.new)) (λ k. (k ≡ place) × Unlike Number (fields_left self.old)) }
+    /// The next field as a number, or the fault at its place.
+    pub(crate) fn number(&mut self, place: u32) -> Result<u32, TextFault>
+        ensures cases { MatchResult result (λ n. Small n × (fields_left self.old ≡ decimal n ∷ fields_left self.new)) (λ f. (f ≡ Field place) × Unlike Number (fields_left self.old)) }
     {
-        let Some(field) = self.next() else {
-            return Err(place);
-        };
-        match number(field) {
-            Some(n) => Ok(n),
-            None => Err(place),
-        }
+        self.next()
+            .and_then(number)
+            .ok_or(TextFault::Field(place))
     }
 
-    /// All fields that are left as numbers, of which there have to be `N`; else the place of the first wrong one, where
+    /// All fields that are left as numbers, of which there have to be `N`; else the fault of the first wrong one, where
     /// the first of them has the place `first`.
-    pub(crate) fn numbers<const N: usize>(&mut self, first: u32) -> Result<[u32; N], u32>
+    pub(crate) fn numbers<const N: usize>(&mut self, first: u32) -> Result<[u32; N], TextFault>
         requires { first + N < 2 ^ 32 }
-        ensures cases { MatchResult result (λ ns. Numbers N (fields_left self.old) ns) (λ k. MissesFrom first (replicate N Number) (fields_left self.old) k) }
+        ensures cases { MatchResult result (λ ns. Numbers N (fields_left self.old) ns) (AtField (MissesFrom first (replicate N Number) (fields_left self.old))) }
     {
         let mut found = [0; N];
         let mut place = first;
@@ -58,7 +57,7 @@ impl<'a> Cursor<'a> {
         }
         match self.next() {
             None => Ok(found),
-            Some(_) => Err(place),
+            Some(_) => Err(TextFault::Field(place)),
         }
     }
 }

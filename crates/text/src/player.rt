@@ -97,8 +97,8 @@ fn play_rest(
     ensures lender { lender_of drawing.new ≡ lender_of drawing.old }
 {
     while let Some((bytes, number)) = lines.next() {
-        let reply = answer_line(drawing, sheet, bytes, number);
-        put(text, reply)?;
+        let answer = answer_line(drawing, sheet, bytes);
+        put(text, numbered(answer, number))?;
     }
     Ok(())
 }
@@ -107,22 +107,16 @@ fn play_rest(
 fn begin_line(bytes: &[u8]) -> Result<Sectors, TextFault>
     ensures cases { (rows size i : ℕ) → MatchResult result (λ l. Answered rows size Nothing i bytes.now Done (Just (begun (limits_of l) rows size))) (λ f. Answered rows size Nothing i bytes.now (Refused (text_refusal f) i) Nothing) }
 {
-    match read_line(bytes, false) {
-        Ok(line) => begin(line),
-        Err(field) => Err(TextFault::Field(field)),
-    }
+    begin(read_line(bytes, false)?)
 }
 
-// Plays a line over a drawing and its sheet, and answers its reply.
-fn answer_line(drawing: &mut Drawing<'_>, sheet: &mut [u8], bytes: &[u8], number: u32) -> Reply
-    ensures cases { (rows size : ℕ) → Answered rows size (Just (study_of drawing.old sheet.old)) number bytes.now result (Just (study_of drawing.new sheet.new)) }
+// Plays a line over a drawing and its sheet, and answers its reply; else its fault, where nothing is changed.
+fn answer_line(drawing: &mut Drawing<'_>, sheet: &mut [u8], bytes: &[u8]) -> Result<Reply, TextFault>
+    ensures cases { (rows size i : ℕ) → Answered rows size (Just (study_of drawing.old sheet.old)) i bytes.now (numbered_as result i) (Just (study_of drawing.new sheet.new)) }
     ensures over { (rows : List Row) → Over rows drawing.old → Over rows drawing.new }
     ensures lender { lender_of drawing.new ≡ lender_of drawing.old }
 {
-    match read_line(bytes, true) {
-        Ok(line) => numbered(carry_out(drawing, sheet, line), number),
-        Err(field) => numbered(Err(TextFault::Field(field)), number),
-    }
+    carry_out(drawing, sheet, read_line(bytes, true)?)
 }
 
 // The reply to the line with this number: its answer, or its refusal with that number.
@@ -132,7 +126,7 @@ fn numbered(answer: Result<Reply, TextFault>, line: u32) -> Reply
     match answer {
         Ok(reply) => reply,
         Err(fault) => Reply::Refused {
-            refusal: fault.refusal(),
+            refusal: fault.into(),
             line,
         },
     }
