@@ -39,7 +39,7 @@ pub fn play(
 {
     let mut text = String::new(heap);
     if log.len() > MOST_BYTES {
-        put(&mut text, numbered(Err(TextFault::Long), 0))?;
+        put(&mut text, Err(TextFault::Long), 0)?;
         return Ok(text);
     }
     sheet.fill(0);
@@ -60,10 +60,10 @@ fn play_opening(lines: &mut Lines<'_>, text: &mut String) -> Result<Option<Secto
     while let Some((bytes, number)) = lines.next() {
         match begin_line(bytes) {
             Ok(limits) => {
-                put(text, Reply::Done)?;
+                put(text, Ok(Reply::Done), number)?;
                 return Ok(Some(limits));
             }
-            Err(fault) => put(text, numbered(Err(fault), number))?,
+            Err(fault) => put(text, Err(fault), number)?,
         }
     }
     Ok(None)
@@ -98,7 +98,7 @@ fn play_rest(
 {
     while let Some((bytes, number)) = lines.next() {
         let answer = answer_line(drawing, sheet, bytes);
-        put(text, numbered(answer, number))?;
+        put(text, answer, number)?;
     }
     Ok(())
 }
@@ -132,9 +132,10 @@ fn numbered(answer: Result<Reply, TextFault>, line: u32) -> Reply
     }
 }
 
-// Writes a reply and a newline behind the text.
-fn put(text: &mut String, reply: Reply) -> Result<(), AllocError>
-    ensures bytes { OnOk result (string_bytes text.new ≡ string_bytes text.old ++ (reply_text reply ++ (10 ∷ []))) }
+// Writes the reply to the line with this number and a newline behind the text.
+fn put(text: &mut String, answer: Result<Reply, TextFault>, line: u32) -> Result<(), AllocError>
+    ensures bytes { OnOk result (string_bytes text.new ≡ string_bytes text.old ++ (reply_text (numbered_as answer line) ++ (10 ∷ []))) }
 {
+    let reply = numbered(answer, line);
     writeln!(text, "{reply}")
 }

@@ -18,6 +18,4 @@ returns-in-Ok c =
 pub loop-bytes-preserved : goal.loop-bytes-preserved
 loop-bytes-preserved c rows size =
     let h = c.in-Some.ensures.cases in
-    let told : Answered rows size None c.in-Some.number c.in-Some.bytes.now c.numbered.result None =
-    subst (λ (r : Reply). Answered rows size None c.in-Some.number c.in-Some.bytes.now r None) (sym c.numbered.ensures.value) (c.in-Err.ensures.cases rows size c.in-Some.number) in
-    went_more rows size (moment None c.args.lines.now (string_bytes c.args.text.now)) (moment None c.loop-bytes.lines (string_bytes c.loop-bytes.text)) (moment None c.next.new.self (string_bytes c.put-in-Err.new.text)) c.in-Some.bytes.now c.in-Some.number c.numbered.result (c.loop-bytes.invariant rows size) h.0 h.1 h.2 c.in_ok-put-in-Err.ensures.bytes told
+    went_more rows size (moment None c.args.lines.now (string_bytes c.args.text.now)) (moment None c.loop-bytes.lines (string_bytes c.loop-bytes.text)) (moment None c.next.new.self (string_bytes c.put-in-Err.new.text)) c.in-Some.bytes.now c.in-Some.number _ (c.loop-bytes.invariant rows size) h.0 h.1 h.2 c.in_ok-put-in-Err.ensures.bytes (c.in-Err.ensures.cases rows size c.in-Some.number)
