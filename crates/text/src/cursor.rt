@@ -1,5 +1,6 @@
 // A walk over the fields of a line.
 ghost use Rattle.std.specs.Prelude.{◌≡◌, ◌+◌, ◌^◌, ◌<◌, [], ◌∷◌, replicate, decimal, MatchOption, MatchResult};
+ghost use Rattle.std.specs.Iterator.{YieldsFirstRef, item_count};
 ghost use Rattle.text.specs.Faults.{AtField};
 ghost use Rattle.text.specs.declared.fault.TextFault.TheVariants.{Field};
 ghost use Rattle.text.specs.Numbers.{Number, Numbers, Small};
@@ -22,16 +23,6 @@ impl<'a> Cursor<'a> {
         ensures value { fields_left result ≡ split line.now }
     {
         Cursor { rest: Some(line) }
-    }
-
-    /// The next field.
-    pub(crate) fn next(&mut self) -> Option<&'a [u8]>
-        ensures cases { MatchOption result (fields_left self.old ≡ []) (λ f. fields_left self.old ≡ f.now ∷ fields_left self.new) }
-    {
-        let text = self.rest?;
-        let (field, rest) = cut(text, TAB);
-        self.rest = rest;
-        Some(field)
     }
 
     /// The next field as a number, or the fault at its place.
@@ -59,5 +50,20 @@ impl<'a> Cursor<'a> {
             None => Ok(found),
             Some(_) => Err(TextFault::Field(place)),
         }
+    }
+}
+
+impl<'a> Iterator for Cursor<'a> {
+    type Item = &'a [u8];
+
+    ghost next_gives = { YieldsFirstRef fields_left };
+
+    ghost remaining = { item_count fields_left };
+
+    fn next(&mut self) -> Option<&'a [u8]> {
+        let text = self.rest?;
+        let (field, rest) = cut(text, TAB);
+        self.rest = rest;
+        Some(field)
     }
 }

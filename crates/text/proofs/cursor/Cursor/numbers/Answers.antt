@@ -20,7 +20,7 @@ loop-n-preserved g c =
     read_more _ _ _ _ _ _ _ c.loop-n.invariant c.loop-n-test.true c.in_ok-n.field-0 (fields_left c.number.new.self) h.0 h.1
 
 pub returns-in-None : goal.returns-in-None
-returns-in-None g c = record { cases = read_all _ _ _ _ _ _ _ c.loop-n.invariant (omega arith) c.in-None.ensures.cases }
+returns-in-None g c = record { cases = read_all _ _ _ _ _ _ _ c.loop-n.invariant (omega arith) c.in-None.ensures.steps.0 }
 
 pub returns-in-Some : goal.returns-in-Some
-returns-in-Some g c = record { cases = read_surplus _ _ _ _ _ _ _ c.loop-n.invariant (omega arith) _ _ c.in-Some.ensures.cases }
+returns-in-Some g c = record { cases = read_surplus _ _ _ _ _ _ _ c.loop-n.invariant (omega arith) _ _ c.in-Some.ensures.steps }
