@@ -6,9 +6,9 @@
 --   ReadAs κ fs r         r is the line of the kind κ whose fields behind its word are fs, or the fault of the first wrong one
 --   NoLine started fs k   k is the place of the lowest wrong field of each line with the fields fs
 -- Assumes nothing.
-use Rattle.std.specs.Prelude.{◌≡◌, ℕ, Bool, true, false, not, List, ◌∷◌, replicate, codes, Result, MatchResult}
+use Rattle.std.specs.Prelude.{◌≡◌, ℕ, Bool, true, false, List, ◌∷◌, replicate, codes, Result, MatchResult}
 use Rattle.text.specs.Faults.{AtField}
-use Rattle.text.specs.Lines.{Misread, Reads, Spelled, fields_of}
+use Rattle.text.specs.Lines.{Misread, Spelled, fields_of}
 use Rattle.text.specs.Numbers.{Number}
 use Rattle.text.specs.Pieces.{split}
 use Rattle.text.specs.Shapes.{MissesFrom}

@@ -47,7 +47,7 @@ pub fn play(
     match play_opening(&mut lines, &mut text)? {
         None => Ok(text),
         Some(limits) => {
-            play_drawn(limits, rows, sheet, &mut lines, &mut text)?;
+            play_drawn(limits, rows, sheet, lines, &mut text)?;
             Ok(text)
         }
     }
@@ -57,7 +57,7 @@ pub fn play(
 fn play_opening(lines: &mut Lines<'_>, text: &mut String) -> Result<Option<Sectors>, AllocError>
     ensures cases { (rows size : ℕ) → IfOk result (λ o. MatchOption o (Ends rows size (moment Nothing lines.old (string_bytes text.old)) Nothing (string_bytes text.new)) (λ l. Went rows size (moment Nothing lines.old (string_bytes text.old)) (moment (Just (begun (limits_of l) rows size)) lines.new (string_bytes text.new)))) }
 {
-    while let Some((bytes, number)) = lines.next() {
+    for (bytes, number) in lines {
         match begin_line(bytes) {
             Ok(limits) => {
                 put(text, Ok(Reply::Done), number)?;
@@ -74,10 +74,10 @@ fn play_drawn(
     limits: Sectors,
     rows: &mut [EdgeRow],
     sheet: &mut [u8],
-    lines: &mut Lines<'_>,
+    lines: Lines<'_>,
     text: &mut String,
 ) -> Result<(), AllocError>
-    ensures cases { (size : ℕ) → MatchResult result (λ _. Ended rows.old size (moment (Just (newly (limits_of limits) (length rows.old) sheet.old)) lines.old (string_bytes text.old)) (string_bytes text.new) rows.new sheet.new) (λ _. Stopped rows.old size (moment (Just (newly (limits_of limits) (length rows.old) sheet.old)) lines.old (string_bytes text.old)) rows.new sheet.new) }
+    ensures cases { (size : ℕ) → MatchResult result (λ _. Ended rows.old size (moment (Just (newly (limits_of limits) (length rows.old) sheet.old)) lines.entry (string_bytes text.old)) (string_bytes text.new) rows.new sheet.new) (λ _. Stopped rows.old size (moment (Just (newly (limits_of limits) (length rows.old) sheet.old)) lines.entry (string_bytes text.old)) rows.new sheet.new) }
 {
     let mut drawing = Drawing::new(limits, rows);
     let played = play_rest(&mut drawing, sheet, lines, text);
@@ -89,14 +89,14 @@ fn play_drawn(
 fn play_rest(
     drawing: &mut Drawing<'_>,
     sheet: &mut [u8],
-    lines: &mut Lines<'_>,
+    lines: Lines<'_>,
     text: &mut String,
 ) -> Result<(), AllocError>
-    ensures cases { (rows size : ℕ) → MatchResult result (λ _. Ends rows size (moment_over drawing.old sheet.old lines.old (string_bytes text.old)) (Just (study_of drawing.new sheet.new)) (string_bytes text.new)) (λ _. Stops rows size (moment_over drawing.old sheet.old lines.old (string_bytes text.old)) (Just (study_of drawing.new sheet.new))) }
+    ensures cases { (rows size : ℕ) → MatchResult result (λ _. Ends rows size (moment_over drawing.old sheet.old lines.entry (string_bytes text.old)) (Just (study_of drawing.new sheet.new)) (string_bytes text.new)) (λ _. Stops rows size (moment_over drawing.old sheet.old lines.entry (string_bytes text.old)) (Just (study_of drawing.new sheet.new))) }
     ensures over { (rows : List Row) → Over rows drawing.old → Over rows drawing.new }
     ensures lender { lender_of drawing.new ≡ lender_of drawing.old }
 {
-    while let Some((bytes, number)) = lines.next() {
+    for (bytes, number) in lines {
         let answer = answer_line(drawing, sheet, bytes);
         put(text, answer, number)?;
     }
