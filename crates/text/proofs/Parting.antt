@@ -54,11 +54,6 @@ module _ (m : ℕ) (xs : List ℕ) where
       λ k h is. let other = fails_before_first (λ b. b == m) xs k 0 (omega arith) in eqb-false (get_or xs k 0) m other is in
       (pieces_one m xs clean, λ some. pieces_last m xs clean (λ e. omega arith))
 
--- nothing has no lines
-pub lines_none : (rest : List ℕ) → true ≡ eqb (length rest) 0 → (length rest ≡ 0) × (lines_of rest ≡ [])
-lines_none [] e = (refl, refl)
-lines_none (b ∷ rest) e = absurd (omega (arith, eqb-true (length (b ∷ rest)) 0 (sym e)))
-
 -- a line's bytes are its fields, joined
 joined_mark : (ps : List (List ℕ)) → 0 < length ps → joined ([] ∷ ps) ≡ 9 ∷ joined ps
 joined_mark [] h = absurd (omega arith)

@@ -16,11 +16,7 @@ answered c text more =
 pub loop-bytes-preserved : goal.loop-bytes-preserved
 loop-bytes-preserved c = answered (goal.at.loop-bytes-preserved c).After-answer_line-answer (string_bytes c.put.new.text) c.in_ok-put.ensures.bytes
 
-pub returns-in_err-put : goal.returns-in_err-put
-returns-in_err-put c =
-    let r = answered (goal.at.returns-in_err-put c).After-answer_line-answer _ refl in
-    record {
-      cases = λ rows size. MatchResult-from_err c.from_residual.result _ _ c.from_residual.ensures.0 (λ e. (_, _, _, r.went rows size));
-      over = r.over;
-      lender = r.lender;
-    }
+pub returns-in_err-put-clause-cases : goal.returns-in_err-put-clause-cases
+returns-in_err-put-clause-cases c rows size =
+    let r = answered (goal.at.returns-in_err-put-clause-cases c).After-answer_line-answer _ refl in
+    MatchResult-from_err c.from_residual.result _ _ c.from_residual.ensures.0 (λ e. (_, _, _, r.went rows size))

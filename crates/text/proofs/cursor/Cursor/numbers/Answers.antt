@@ -1,23 +1,13 @@
 use Rattle.std.proofs.Common.{arith}
-use lib.ListN.{length-replicate}
 use Rattle.std.proofs.lemmas.Result.{err_from_is_err_and}
-use Rattle.text.specs.Shapes.{fields_left}
-use Rattle.text.proofs.Shaping.{read_none, read_more, read_miss, read_surplus, read_all}
+use Rattle.text.proofs.Shaping.{read_miss, read_surplus, read_all}
 use Rattle.text.proofs.cursor.Cursor.numbers.Goals as goal
-
-pub loop-n-init : goal.loop-n-init
-loop-n-init g c = read_none _ _ _ _ (length-replicate g.row.N 0)
 
 pub returns-in_err-n : goal.returns-in_err-n
 returns-in_err-n g c =
     let p = err_from_is_err_and c.from_residual.result c.from_residual.ensures.1 in
     let h = c.in_err-n.ensures.cases in
     record { cases = rw (p.1, p.2, h.0) (read_miss _ _ _ _ _ _ _ c.loop-n.invariant c.loop-n-test.true h.1) }
-
-pub loop-n-preserved : goal.loop-n-preserved
-loop-n-preserved g c =
-    let h = c.in_ok-n.ensures.cases in
-    read_more _ _ _ _ _ _ _ c.loop-n.invariant c.loop-n-test.true c.in_ok-n.field-0 (fields_left c.number.new.self) h.0 h.1
 
 pub returns-in-None : goal.returns-in-None
 returns-in-None g c = record { cases = read_all _ _ _ _ _ _ _ c.loop-n.invariant (omega arith) c.in-None.ensures.steps.0 }
