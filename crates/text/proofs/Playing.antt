@@ -31,17 +31,6 @@ module _ (rows size : ℕ) where
     played_join h.1 (i + 1) xs h.2 mid j ys more st' (omega arith) h.5 k,
   )
 
-  pub went_none : (m : Moment) → Went rows size m m
-  went_none m =
-      record {
-        done = [];
-        shown = [];
-        parts = refl;
-        number = omega arith;
-        text = sym (append-nil m.text);
-        played = (refl, refl);
-      }
-
   pub went_join : (m m' m'' : Moment) → Went rows size m m' → Went rows size m' m'' → Went rows size m m''
   went_join m m' m'' h k =
       record {
