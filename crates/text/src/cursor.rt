@@ -29,9 +29,7 @@ impl<'a> Cursor<'a> {
     pub(crate) fn number(&mut self, place: u32) -> Result<u32, TextFault>
         ensures cases { MatchResult result (λ n. Small n × (fields_left self.old ≡ decimal n ∷ fields_left self.new)) (λ f. (f ≡ Field place) × Unlike Number (fields_left self.old)) }
     {
-        self.next()
-            .and_then(number)
-            .ok_or(TextFault::Field(place))
+        self.next().and_then(number).ok_or(TextFault::Field(place))
     }
 
     /// All fields that are left as numbers, of which there have to be `N`; else the fault of the first wrong one, where

@@ -111,7 +111,11 @@ fn begin_line(bytes: &[u8]) -> Result<Sectors, TextFault>
 }
 
 // Plays a line over a drawing and its sheet, and answers its reply; else its fault, where nothing is changed.
-fn answer_line(drawing: &mut Drawing<'_>, sheet: &mut [u8], bytes: &[u8]) -> Result<Reply, TextFault>
+fn answer_line(
+    drawing: &mut Drawing<'_>,
+    sheet: &mut [u8],
+    bytes: &[u8],
+) -> Result<Reply, TextFault>
     ensures cases { (rows size i : ℕ) → Answered rows size (Just (study_of drawing.old sheet.old)) i bytes.now (numbered_as result i) (Just (study_of drawing.new sheet.new)) }
     ensures over { (rows : List Row) → Over rows drawing.old → Over rows drawing.new }
     ensures lender { lender_of drawing.new ≡ lender_of drawing.old }
