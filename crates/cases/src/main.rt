@@ -68,9 +68,7 @@ fn show_weights(rt: &HostRuntime, wd: u32, wu: u32, want: &str) -> io::Result<()
     match Weighted::new(wd, wu) {
         Ok(_) => println!(rt; "weights {wd} {wu}: should be {want}; came ok"),
         Err(fault) => {
-            let refusal = fault.refusal();
-            let number = refusal.number;
-            let detail = refusal.detail;
+            let Refusal { number, detail, .. } = Refusal::from(fault);
             println!(rt; "weights {wd} {wu}: should be {want}; came refused {number} {detail}")
         }
     }

@@ -1,23 +1,12 @@
 -- Bytes that a mark parts.
-use Rattle.std.proofs.Common.{◌≡◌, ℕ, zero, suc, ◌+◌, ◌-◌, ◌<◌, ◌≤◌, true, false, eqb, ◌⊎◌, List, [], ◌∷◌, ◌++◌, length, get_or, take, drop, sym, refl, ap, ◌∙◌, inl, inr, arith}
-use Rattle.std.specs.List.{AllByRecursion}
+use Rattle.std.proofs.Common.{◌≡◌, ℕ, zero, suc, ◌+◌, ◌-◌, ◌<◌, ◌≤◌, true, false, eqb, ◌==◌, ◌⊎◌, List, [], ◌∷◌, ◌++◌, length, Some, None, get_or, take, drop, sym, refl, ap, ◌∙◌, inl, inr, arith}
+use Rattle.std.specs.List.{AllByRecursion, position, position_or_len}
 use Rattle.std.proofs.lemmas.List.{get_or-take, length-append, length-take, take-append-drop, take_rest, drop_more}
+use Rattle.std.proofs.lemmas.List.Quantifiers.{position-Some}
+use Rattle.std.proofs.lemmas.List.Sums.{fails_before_first}
+use Rattle.std.proofs.lemmas.Bool.Decides.{nat_tests}
 use Rattle.std.proofs.lemmas.Bool.{cases_Bool, ne_eqb, eq-eqb, eqb-false, eqb-true}
-use Rattle.text.specs.Pieces.{Alone, Fields, Lacks, Leads, grown, joined, lines_of, pieces, split}
-
-module _ (m : ℕ) (xs : List ℕ) (i : ℕ) where
-  -- what stands before the first mark has none
-  pub front_lacks : ((k : ℕ) → k < i → get_or xs k 0 ≡ m → ⊥) → Lacks m (take (i - 0) xs)
-  front_lacks before k h e =
-      let short : k < i = omega (arith, length-take (i - 0) xs) in
-      let inner : k < i - 0 = omega arith in
-      before k short (sym (get_or-take (i - 0) xs k 0 inner) ∙ e)
-
-  -- the mark at i parts the bytes before it from those behind it
-  pub front_and_rest : i < length xs → get_or xs i 0 ≡ m → xs ≡ take (i - 0) xs ++ (m ∷ take (length xs - (i + 1)) (drop (i + 1) xs))
-  front_and_rest h e =
-      let zero : i - 0 ≡ i = omega arith in
-      rw (zero, take_rest xs (i + 1), ← e, ← drop_more xs i 0 h) (sym (take-append-drop i xs))
+use Rattle.text.specs.Pieces.{Alone, Fields, Lacks, Leads, grown, joined, pieces, split}
 
 module _ (m : ℕ) where
   lacks_first : (x : ℕ) (xs : List ℕ) → Lacks m (x ∷ xs) → eqb x m ≡ false
@@ -43,24 +32,27 @@ module _ (m : ℕ) where
   pieces_last (x ∷ y ∷ ys) h some =
       rw (lacks_first x (y ∷ ys) h, pieces_last (y ∷ ys) (lacks_rest x (y ∷ ys) h) (λ e. omega arith))
 
-module _ (m : ℕ) (xs : List ℕ) (i : ℕ) (before : (k : ℕ) → k < i → get_or xs k 0 ≡ m → ⊥) where
-  pub cut_leads : i < length xs → get_or xs i 0 ≡ m → Leads m xs (take (i - 0) xs) (take (length xs - (i + 1)) (drop (i + 1) xs))
-  cut_leads h e =
-      let whole = front_and_rest m xs i h e in
-      let after = take (length xs - (i + 1)) (drop (i + 1) xs) in (
-        λ last. ap (pieces m last) whole ∙ pieces_first m last (take (i - 0) xs) after (front_lacks m xs i before),
-        omega (arith, ap length whole, length-append (take (i - 0) xs) (m ∷ after)),
+module _ (m : ℕ) (xs : List ℕ) where
+  -- the first mark parts the bytes before it, which have none, from those behind it
+  pub cut_leads : (i : ℕ) → Some i ≡ position (λ b. b == m) xs → Leads m xs (take (i - 0) xs) (take (length xs - (i + 1)) (drop (i + 1) xs))
+  cut_leads i e =
+      let (inside, here, before) = position-Some (λ b. b == m) xs i 0 (sym e) in
+      let front : Lacks m (take (i - 0) xs) =
+      λ k h is. let below : k < i = omega (arith, length-take (i - 0) xs) in let other = before k below in eqb-false (get_or xs k 0) m other (sym (get_or-take (i - 0) xs k 0 (omega arith)) ∙ is) in
+      let behind = take (length xs - (i + 1)) (drop (i + 1) xs) in
+      let zero : i - 0 ≡ i = omega arith in
+      let whole : xs ≡ take (i - 0) xs ++ (m ∷ behind) =
+      rw (zero, take_rest xs (i + 1), ← (eqb-true (get_or xs i 0) m here), ← drop_more xs i 0 inside) (sym (take-append-drop i xs)) in (
+        λ last. ap (pieces m last) whole ∙ pieces_first m last (take (i - 0) xs) behind front,
+        omega (arith, ap length whole, length-append (take (i - 0) xs) (m ∷ behind)),
       )
 
-  pub cut_alone : length xs ≤ i → Alone m xs xs
-  cut_alone all =
-      let clean : Lacks m xs = λ k h. before k (omega arith) in
+  pub cut_alone : None ≡ position (λ b. b == m) xs → Alone m xs xs
+  cut_alone e =
+      let all : length xs ≤ position_or_len (λ b. b == m) xs = grind (arith, nat_tests) in
+      let clean : Lacks m xs =
+      λ k h is. let other = fails_before_first (λ b. b == m) xs k 0 (omega arith) in eqb-false (get_or xs k 0) m other is in
       (pieces_one m xs clean, λ some. pieces_last m xs clean (λ e. omega arith))
-
--- nothing has no lines
-pub lines_none : (rest : List ℕ) → true ≡ eqb (length rest) 0 → (length rest ≡ 0) × (lines_of rest ≡ [])
-lines_none [] e = (refl, refl)
-lines_none (b ∷ rest) e = absurd (omega (arith, eqb-true (length (b ∷ rest)) 0 (sym e)))
 
 -- a line's bytes are its fields, joined
 joined_mark : (ps : List (List ℕ)) → 0 < length ps → joined ([] ∷ ps) ≡ 9 ∷ joined ps
@@ -101,16 +93,3 @@ split_fields (b ∷ bytes) = go (cases_Bool (eqb b 9)) (split_fields bytes)
           clean = lacks_grown 9 b (split bytes) e h.clean;
           whole = ap (λ x. b ∷ x) h.whole ∙ sym (joined_grown b (split bytes));
         })
-
--- a log has no more lines than bytes
-grown_few : (b : ℕ) (ps : List (List ℕ)) → length (grown b ps) ≤ length ps + 1
-grown_few b [] = omega arith
-grown_few b (p ∷ ps) = omega arith
-
-pub lines_few : (bytes : List ℕ) → length (lines_of bytes) ≤ length bytes
-lines_few [] = omega arith
-lines_few (b ∷ bytes) = go (cases_Bool (eqb b 10)) (lines_few bytes)
-  where
-    go : (eqb b 10 ≡ true) ⊎ (eqb b 10 ≡ false) → length (lines_of bytes) ≤ length bytes → length (lines_of (b ∷ bytes)) ≤ length (b ∷ bytes)
-    go (inl e) h = rw e (omega arith)
-    go (inr e) h = rw e (omega (arith, grown_few b (lines_of bytes)))

@@ -1,7 +1,7 @@
 -- Plays put together, line by line and part by part.
 use Rattle.std.proofs.Common.{◌≡◌, ℕ, ◌+◌, List, [], ◌∷◌, ◌++◌, length, take, drop, replicate, Some, None, Option, Result, sym, refl, ap, ◌∙◌, subst, arith, MatchResult}
 use Rattle.std.proofs.lemmas.Result.{MatchResult-weaker}
-use Rattle.std.proofs.lemmas.List.{append_assoc, append-nil, drop_all, length-append, take-append-le, take_all}
+use Rattle.std.proofs.lemmas.List.{append_assoc, append-nil, length-append, take-append-le, take_all}
 use Rattle.turns.specs.Sectors.{Limits}
 use Rattle.plan.specs.Plans.{Over, lender_of, plan_of, rows_of, spare_of}
 use Rattle.plan.specs.Studies.{Study, begun, study_of}
@@ -30,17 +30,6 @@ module _ (rows size : ℕ) where
     ap (λ o. o ++ more) h.4 ∙ append_assoc (reply_text h.0) (10 ∷ h.2) more,
     played_join h.1 (i + 1) xs h.2 mid j ys more st' (omega arith) h.5 k,
   )
-
-  pub went_none : (m : Moment) → Went rows size m m
-  went_none m =
-      record {
-        done = [];
-        shown = [];
-        parts = refl;
-        number = omega arith;
-        text = sym (append-nil m.text);
-        played = (refl, refl);
-      }
 
   pub went_join : (m m' m'' : Moment) → Went rows size m m' → Went rows size m' m'' → Went rows size m m''
   went_join m m' m'' h k =
@@ -99,11 +88,6 @@ module _ (d d' d'' : Drawing) (sheet sheet' sheet'' : List ℕ) (l l' l'' : Line
         over = λ rows o. over rows (h.over rows o);
         lender = lender ∙ h.lender;
       }
-
--- a list that is filled to its end
-pub filled : (xs : List ℕ) (i : ℕ) → i ≡ length xs → replicate i 0 ++ drop i xs ≡ replicate (length xs) 0
-filled xs i e =
-    ap (λ rest. replicate i 0 ++ rest) (drop_all i xs (omega arith)) ∙ append-nil (replicate i 0) ∙ ap (λ n. replicate n 0) e
 
 -- a play over a drawing that is new, and is let go at the end
 module _ (rows₀ rows : List EdgeRow) (d d' : Drawing) (l : Limits) (sheet sheet' : List ℕ) (lines : Lines) (text text' : List ℕ) where

@@ -2,11 +2,14 @@
 use Rattle.std.proofs.Common.{◌≡◌, ℕ, zero, suc, ◌-◌, Bool, true, false, cond, not, eqb, List, [], ◌∷◌, map, length, get_or, drop, replicate, Ok, Err, codes, decimal, Result, sym, refl, ap, ◌∙◌, subst, arith}
 use Rattle.std.specs.List.{AllByRecursion}
 use Rattle.std.proofs.lemmas.Bool.{both_ways}
-use Rattle.text.specs.Kinds.{LineOf, NoLine, ReadAs, is_opening, kind_of, shape, word_of}
-use Rattle.text.specs.Lines.{Agree, LowestWrong, Sound, Spelled, fields_of, is_sectors}
+use Rattle.text.specs.Faults.{AtField}
+use Rattle.text.specs.Kinds.{NoLine, ReadAs, is_opening, kind_of, shape, word_of}
+use Rattle.text.specs.Lines.{Agree, LowestWrong, Sound, Spelled, fields_of, is_sectors, Reads}
 use Rattle.text.specs.Numbers.{Number, Numbers, Small}
-use Rattle.text.specs.Pieces.{Fields, joined}
+use Rattle.text.specs.Pieces.{Fields, joined, split}
 use Rattle.text.specs.Shapes.{Misses, MissesFrom}
+use Rattle.text.specs.declared.fault.TextFault.{TextFault}
+use Rattle.text.specs.declared.fault.TextFault.TheVariants.{Field}
 use Rattle.text.specs.declared.kind.Kind.{Kind}
 use Rattle.text.specs.declared.kind.Kind.TheVariants as kind
 use Rattle.text.specs.declared.line.Line.{Line}
@@ -202,17 +205,15 @@ pub not_now : (started : Bool) (κ : Kind) (w : List ℕ) → w ≡ word_of κ �
 not_now started κ w e no_more ι may d = never_both started (sym no_more ∙ (ap is_opening (same_kind κ ι (sym e ∙ d)) ∙ may))
 
 -- a line has one field at least
-pub no_field : (started : Bool) (fs : List (List ℕ)) (k : ℕ) → fs ≡ [] → NoLine started fs k
-no_field started fs k none bytes e = absurd (omega (arith, (split_fields bytes).some, ap length (e ∙ none)))
+pub no_field : (started : Bool) (fs : List (List ℕ)) → fs ≡ [] → AtField (NoLine started fs) (Field 1)
+no_field started fs none = (1, refl, λ bytes e. absurd (omega (arith, (split_fields bytes).some, ap length (e ∙ none))))
 
-pub no_word : (started : Bool) (fs : List (List ℕ)) (w : List ℕ) (gs : List (List ℕ)) → fs ≡ w ∷ gs → ((κ : Kind) → is_opening κ ≡ not started → w ≡ word_of κ → ⊥) → NoLine started fs 1
-no_word started fs w gs d none bytes e = (w ∷ gs, subst (Fields bytes) (e ∙ d) (split_fields bytes), wrong_word started w gs none)
+pub no_word : (started : Bool) (fs : List (List ℕ)) (w : List ℕ) (gs : List (List ℕ)) → fs ≡ w ∷ gs → ((κ : Kind) → is_opening κ ≡ not started → w ≡ word_of κ → ⊥) → AtField (NoLine started fs) (Field 1)
+no_word started fs w gs d none =
+    (1, refl, λ bytes e. (w ∷ gs, subst (Fields bytes) (e ∙ d) (split_fields bytes), wrong_word started w gs none))
 
-line_read : (κ : Kind) (fs : List (List ℕ)) (r : Result Line ℕ) → ReadAs κ fs r → LineOf κ fs r
-line_read κ fs (Ok l) h bytes started e may =
+pub line_read : (κ : Kind) (fs : List (List ℕ)) (r : Result Line TextFault) (started : Bool) (bytes : List ℕ) → split bytes ≡ word_of κ ∷ fs → is_opening κ ≡ not started → ReadAs κ fs r → Reads started bytes r
+line_read κ fs (Ok l) started bytes e may h =
     ((split_fields bytes).whole ∙ ap joined (e ∙ sym h.0), (h.1, sym (opening_line l) ∙ (ap is_opening h.2 ∙ may)))
-line_read κ fs (Err k) h bytes started e may =
-    (word_of κ ∷ fs, subst (Fields bytes) e (split_fields bytes), wrong_behind started κ fs k may h)
-
-pub line_of : (ι κ : Kind) (fs : List (List ℕ)) (r : Result Line ℕ) → ι ≡ κ → ReadAs κ fs r → LineOf ι fs r
-line_of ι κ fs r e h = subst (λ (o : Kind). LineOf o fs r) (sym e) (line_read κ fs r h)
+line_read κ fs (Err f) started bytes e may (k, is, h) =
+    (k, is, (word_of κ ∷ fs, subst (Fields bytes) e (split_fields bytes), wrong_behind started κ fs k may h))

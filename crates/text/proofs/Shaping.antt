@@ -1,10 +1,11 @@
 -- Fields against what a line asks for.
-use Rattle.std.proofs.Common.{◌≡◌, ℕ, zero, suc, ◌+◌, ◌-◌, ◌<◌, ◌≤◌, List, [], ◌∷◌, ◌++◌, map, length, get_or, take, drop, set, replicate, decimal, sym, refl, ap, ◌∙◌, append_assoc, append-nil, arith}
+use Rattle.std.proofs.Common.{◌≡◌, ℕ, zero, suc, ◌+◌, ◌-◌, ◌<◌, ◌≤◌, List, [], ◌∷◌, ◌++◌, map, length, get_or, take, drop, replicate, decimal, sym, refl, ap, ◌∙◌, append-nil, arith}
 use Rattle.std.specs.List.{AllByRecursion}
-use Rattle.std.proofs.ByRecursion.{All-push}
-use Rattle.std.proofs.lemmas.List.{drop_more, length-set, length-take-le, map_push, take_all, take_more_set}
+use Rattle.std.proofs.lemmas.List.{drop_more, length-take-le, take_all}
+use Rattle.text.specs.Faults.{AtField}
 use Rattle.text.specs.Numbers.{Number, Numbers, Small, from}
 use Rattle.text.specs.Shapes.{Misses, MissesFrom, Unlike}
+use Rattle.text.specs.declared.fault.TextFault.TheVariants.{Field}
 
 -- numbers in front of the first wrong field
 pub misses_more : (ns : List ℕ) (N m K k : ℕ) (rest : List (List ℕ)) → N ≡ length ns + m → K ≡ length ns + k → AllByRecursion Small ns → Misses (replicate m Number) rest k → Misses (replicate N Number) (map decimal ns ++ rest) K
@@ -36,36 +37,22 @@ module _ (N first : ℕ) (all left : List (List ℕ)) (found : List ℕ) (i plac
   read_size : i ≤ N → length (take i found) ≡ i
   read_size below = length-take-le i found (omega arith)
 
-  pub read_more : i < N → (n : ℕ) (rest : List (List ℕ)) → Small n → left ≡ decimal n ∷ rest → ReadTo N first all rest (set found i n) (i + 1) (place + 1)
-  read_more below n rest few next =
-      let inside : i < length found = omega arith in
-      let step = take_more_set found i n inside in
-      record {
-        here = omega arith;
-        size = length-set found i n ∙ h.size;
-        front = h.front ∙ (ap (λ x. map decimal (take i found) ++ x) next ∙ rw (step, map_push decimal (take i found) n, append_assoc) refl);
-        small = rw step (All-push Small (take i found) n h.small few);
-      }
-
   -- the field at place is missing or no number
-  pub read_miss : i < N → Unlike Number left → MissesFrom first (replicate N Number) all place
+  pub read_miss : i < N → Unlike Number left → AtField (MissesFrom first (replicate N Number) all) (Field place)
   read_miss below wrong =
       let e = read_size (omega arith) in
-      (i, h.here, rw h.front (misses_more (take i found) N (suc (N - i - 1)) i 0 left (omega arith) (omega arith) h.small wrong))
+      (place, refl, (i, h.here, rw h.front (misses_more (take i found) N (suc (N - i - 1)) i 0 left (omega arith) (omega arith) h.small wrong)))
 
   -- there is a field at place, and it is one too many
-  pub read_surplus : i ≡ N → (f : List ℕ) (rest : List (List ℕ)) → left ≡ f ∷ rest → MissesFrom first (replicate N Number) all place
+  pub read_surplus : i ≡ N → (f : List ℕ) (rest : List (List ℕ)) → left ≡ f ∷ rest → AtField (MissesFrom first (replicate N Number) all) (Field place)
   read_surplus done f rest next =
       let e = read_size (omega arith) in
-      (i, h.here, rw (h.front, next) (misses_more (take i found) N 0 i 0 (f ∷ rest) (omega arith) (omega arith) h.small refl))
+      (place, refl, (i, h.here, rw (h.front, next) (misses_more (take i found) N 0 i 0 (f ∷ rest) (omega arith) (omega arith) h.small refl)))
 
   pub read_all : i ≡ N → left ≡ [] → Numbers N all found
   read_all done next =
       let e : take i found ≡ from 0 N found = ap (λ n. take n found) done ∙ sym (from_is 0 N found (omega arith)) in
       (h.front ∙ rw (e, next) (append-nil (map decimal (from 0 N found))), rw (← e) h.small)
-
-pub read_none : (N first : ℕ) (all : List (List ℕ)) (found : List ℕ) → length found ≡ N → ReadTo N first all all found 0 first
-read_none N first all found e = record { here = omega arith; size = e; front = refl; small = tt }
 
 pub from_all : (n : ℕ) (xs : List ℕ) → length xs ≡ n → from 0 n xs ≡ xs
 from_all n xs e = from_is 0 n xs (omega arith) ∙ take_all n xs (omega arith)

@@ -3,15 +3,16 @@
 --   kind_of l             the kind of the line l
 --   is_opening κ          κ is the kind of `sectors` lines
 --   shape κ               what the fields behind the word of a line of the kind κ have to be, in turn
---   ReadAs κ fs r         r is the line of the kind κ whose fields behind its word are fs, or the place of the first wrong one
---   LineOf κ fs r         r is what is to be read of each line with the word of κ and then the fields fs, where it may come
+--   ReadAs κ fs r         r is the line of the kind κ whose fields behind its word are fs, or the fault of the first wrong one
 --   NoLine started fs k   k is the place of the lowest wrong field of each line with the fields fs
 -- Assumes nothing.
-use Rattle.std.specs.Prelude.{◌≡◌, ℕ, Bool, true, false, not, List, ◌∷◌, replicate, codes, Result, MatchResult}
-use Rattle.text.specs.Lines.{Misread, Reads, Spelled, fields_of}
+use Rattle.std.specs.Prelude.{◌≡◌, ℕ, Bool, true, false, List, ◌∷◌, replicate, codes, Result, MatchResult}
+use Rattle.text.specs.Faults.{AtField}
+use Rattle.text.specs.Lines.{Misread, Spelled, fields_of}
 use Rattle.text.specs.Numbers.{Number}
 use Rattle.text.specs.Pieces.{split}
 use Rattle.text.specs.Shapes.{MissesFrom}
+use Rattle.text.specs.declared.fault.TextFault.{TextFault}
 use Rattle.text.specs.declared.kind.Kind.{Kind}
 use Rattle.text.specs.declared.kind.Kind.TheVariants as kind
 use Rattle.text.specs.declared.line.Line.{Line}
@@ -45,11 +46,8 @@ shape kind.Close = replicate 1 Number
 shape kind.Open = replicate 1 Number
 shape kind.Measure = replicate 2 Number
 
-abbrev pub ReadAs : Kind → List (List ℕ) → Result Line ℕ → Type 0
-ReadAs κ fs r = MatchResult r (λ l. (fields_of l ≡ word_of κ ∷ fs) × Spelled l × (kind_of l ≡ κ)) (MissesFrom 2 (shape κ) fs)
-
-abbrev pub LineOf : Kind → List (List ℕ) → Result Line ℕ → Type 0
-LineOf κ fs r = (bytes : List ℕ) (started : Bool) → split bytes ≡ word_of κ ∷ fs → is_opening κ ≡ not started → Reads started bytes r
+abbrev pub ReadAs : Kind → List (List ℕ) → Result Line TextFault → Type 0
+ReadAs κ fs r = MatchResult r (λ l. (fields_of l ≡ word_of κ ∷ fs) × Spelled l × (kind_of l ≡ κ)) (AtField (MissesFrom 2 (shape κ) fs))
 
 abbrev pub NoLine : Bool → List (List ℕ) → ℕ → Type 0
 NoLine started fs k = (bytes : List ℕ) → split bytes ≡ fs → Misread started bytes k

@@ -8,11 +8,13 @@
 --   LowestWrong started fs k   the fields fs are no sound line, and leave every sound line at the place k, counted from 1: before
 --                              it they are the beginning of one (before), with it they are not (here)
 --   Misread started bytes k    the bytes are no sound line, and k is the place of their lowest wrong field
---   Reads started bytes r      r is the sound line that the bytes are, or the place of their lowest wrong field
+--   Reads started bytes r      r is the sound line that the bytes are, or the fault of their lowest wrong field
 -- Assumes nothing.
 use Rattle.std.specs.Prelude.{◌≡◌, ℕ, ◌-◌, ◌≤◌, Bool, true, false, not, List, [], ◌∷◌, length, take, codes, decimal, Result, MatchResult, ◌≢◌}
+use Rattle.text.specs.Faults.{AtField}
 use Rattle.text.specs.Numbers.{Small}
 use Rattle.text.specs.Pieces.{Fields, joined}
+use Rattle.text.specs.declared.fault.TextFault.{TextFault}
 use Rattle.text.specs.declared.line.Line.{Line}
 use Rattle.text.specs.declared.line.Line.TheVariants.{Sectors, Edge, Close, Open, Measure}
 
@@ -55,5 +57,5 @@ pub record LowestWrong (started : Bool) (fs : List (List ℕ)) (k : ℕ) : Type 
 abbrev pub Misread : Bool → List ℕ → ℕ → Type 0
 Misread started bytes k = (fs : List (List ℕ)) × Fields bytes fs × LowestWrong started fs k
 
-abbrev pub Reads : Bool → List ℕ → Result Line ℕ → Type 0
-Reads started bytes r = MatchResult r (λ l. (bytes ≡ written l) × Sound started l) (Misread started bytes)
+abbrev pub Reads : Bool → List ℕ → Result Line TextFault → Type 0
+Reads started bytes r = MatchResult r (λ l. (bytes ≡ written l) × Sound started l) (AtField (Misread started bytes))

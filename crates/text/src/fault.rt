@@ -17,12 +17,12 @@ pub enum TextFault {
     Plan(PlanFault),
 }
 
-impl TextFault {
-    /// The refusal's number, detail and layer: `Field(3)` is number 12 with detail 3 of the layer `text`.
-    pub fn refusal(self) -> Refusal
-        ensures value { result ≡ text_refusal self }
-    {
-        let (number, detail) = match self {
+/// The refusal's number, detail and layer: `Field(3)` is number 12 with detail 3 of the layer `text`.
+impl From<TextFault> for Refusal {
+    ghost from_gives = { λ f r. r ≡ text_refusal f };
+
+    fn from(fault: TextFault) -> Refusal {
+        let (number, detail) = match fault {
             TextFault::Field(place) => (12, place),
             TextFault::Long => (13, 0),
             TextFault::Plan(fault) => return Refusal::from(fault),

@@ -1,7 +1,10 @@
 // The kinds of lines, by their words.
-ghost use Rattle.std.specs.Prelude.{◌≡◌, MatchOption, ◌≢◌};
+ghost use Rattle.std.specs.Prelude.{◌≡◌, ◌≢◌, MatchResult};
 ghost use Rattle.text.specs.Kinds.{word_of};
 ghost use Rattle.text.specs.declared.kind.Kind.{Kind as Word};
+ghost use Rattle.text.specs.declared.fault.TextFault.TheVariants.{Field};
+
+use super::fault::TextFault;
 
 /// A kind of line.
 #[derive(Clone, Copy)]
@@ -13,16 +16,20 @@ pub enum Kind {
     Measure,
 }
 
-/// The kind of line that begins with a word.
-pub(crate) fn kind_named(word: &[u8]) -> Option<Kind>
-    ensures cases { MatchOption result ((k : Word) → word.now ≢ word_of k) (λ k. word.now ≡ word_of k) }
-{
-    match word {
-        b"sectors" => Some(Kind::Sectors),
-        b"edge" => Some(Kind::Edge),
-        b"close" => Some(Kind::Close),
-        b"open" => Some(Kind::Open),
-        b"measure" => Some(Kind::Measure),
-        _ => None,
+/// The kind of line that begins with a word; else the word, a line's first field, is wrong.
+impl TryFrom<&[u8]> for Kind {
+    type Error = TextFault;
+
+    ghost try_from_gives = { λ word r. MatchResult r (λ k. word.now ≡ word_of k) (λ f. (f ≡ Field 1) × ((k : Word) → word.now ≢ word_of k)) };
+
+    fn try_from(word: &[u8]) -> Result<Kind, TextFault> {
+        match word {
+            b"sectors" => Ok(Kind::Sectors),
+            b"edge" => Ok(Kind::Edge),
+            b"close" => Ok(Kind::Close),
+            b"open" => Ok(Kind::Open),
+            b"measure" => Ok(Kind::Measure),
+            _ => Err(TextFault::Field(1)),
+        }
     }
 }

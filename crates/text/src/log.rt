@@ -1,5 +1,5 @@
 // Bytes cut at a mark, and a log cut into lines.
-ghost use Rattle.std.specs.Prelude.{◌≡◌, ◌<◌, [], ◌∷◌, length, MatchOption};
+ghost use Rattle.std.specs.Prelude.{◌≡◌, ◌==◌, ◌<◌, [], ◌∷◌, length, position, MatchOption};
 ghost use Rattle.text.specs.Pieces.{Alone, Leads, lines_of};
 
 /// The byte that parts a line's fields.
@@ -8,16 +8,21 @@ pub const TAB: u8 = 9;
 /// The byte that ends a line.
 pub const NEWLINE: u8 = 10;
 
+// The index of the first `mark`, if there is one.
+fn index_of(text: &[u8], mark: u8) -> Option<usize>
+    ensures value { result ≡ position (λ b. b == mark) text.now }
+{
+    text.iter().position(|b| *b == mark)
+}
+
 /// What stands before the first `mark`, and what stands behind it if there is one.
 pub(crate) fn cut(text: &[u8], mark: u8) -> (&[u8], Option<&[u8]>)
     ensures cases { MatchOption result.1 (Alone mark text.now result.0.now) (λ after. Leads mark text.now result.0.now after.now) }
 {
-    for (i, b) in text.iter().enumerate() {
-        if *b == mark {
-            return (&text[0..i], Some(&text[i + 1..]));
-        }
+    match index_of(text, mark) {
+        Some(i) => (&text[0..i], Some(&text[i + 1..])),
+        None => (text, None),
     }
-    (text, None)
 }
 
 /// The first line of what is left of a log, without its newline, and the rest behind it; nothing where nothing is left.
@@ -28,8 +33,5 @@ pub fn next_line(rest: &[u8]) -> Option<(&[u8], &[u8])>
         return None;
     }
     let (line, after) = cut(rest, NEWLINE);
-    match after {
-        Some(after) => Some((line, after)),
-        None => Some((line, &[])),
-    }
+    Some((line, after.unwrap_or(&[])))
 }

@@ -17,7 +17,7 @@ pub(crate) fn number(field: &[u8]) -> Option<u32>
     }
     let mut value = 0;
     for digit in field {
-        if *digit < b'0' || *digit > b'9' {
+        if !digit.is_ascii_digit() {
             return None;
         }
         value = value * 10 + u32::from(*digit - b'0');

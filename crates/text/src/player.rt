@@ -39,26 +39,17 @@ pub fn play(
 {
     let mut text = String::new(heap);
     if log.len() > MOST_BYTES {
-        put(&mut text, numbered(Err(TextFault::Long), 0))?;
+        put(&mut text, Err(TextFault::Long), 0)?;
         return Ok(text);
     }
-    clear(sheet);
+    sheet.fill(0);
     let mut lines = Lines::new(log);
     match play_opening(&mut lines, &mut text)? {
         None => Ok(text),
         Some(limits) => {
-            play_drawn(limits, rows, sheet, &mut lines, &mut text)?;
+            play_drawn(limits, rows, sheet, lines, &mut text)?;
             Ok(text)
         }
-    }
-}
-
-// Opens every edge of a sheet.
-fn clear(sheet: &mut [u8])
-    ensures after { sheet.new ≡ replicate (length sheet.old) 0 }
-{
-    for byte in sheet.iter_mut() {
-        *byte = 0;
     }
 }
 
@@ -69,10 +60,10 @@ fn play_opening(lines: &mut Lines<'_>, text: &mut String) -> Result<Option<Secto
     while let Some((bytes, number)) = lines.next() {
         match begin_line(bytes) {
             Ok(limits) => {
-                put(text, Reply::Done)?;
+                put(text, Ok(Reply::Done), number)?;
                 return Ok(Some(limits));
             }
-            Err(fault) => put(text, numbered(Err(fault), number))?,
+            Err(fault) => put(text, Err(fault), number)?,
         }
     }
     Ok(None)
@@ -83,10 +74,10 @@ fn play_drawn(
     limits: Sectors,
     rows: &mut [EdgeRow],
     sheet: &mut [u8],
-    lines: &mut Lines<'_>,
+    lines: Lines<'_>,
     text: &mut String,
 ) -> Result<(), AllocError>
-    ensures cases { (size : ℕ) → MatchResult result (λ _. Ended rows.old size (moment (Just (newly (limits_of limits) (length rows.old) sheet.old)) lines.old (string_bytes text.old)) (string_bytes text.new) rows.new sheet.new) (λ _. Stopped rows.old size (moment (Just (newly (limits_of limits) (length rows.old) sheet.old)) lines.old (string_bytes text.old)) rows.new sheet.new) }
+    ensures cases { (size : ℕ) → MatchResult result (λ _. Ended rows.old size (moment (Just (newly (limits_of limits) (length rows.old) sheet.old)) lines.entry (string_bytes text.old)) (string_bytes text.new) rows.new sheet.new) (λ _. Stopped rows.old size (moment (Just (newly (limits_of limits) (length rows.old) sheet.old)) lines.entry (string_bytes text.old)) rows.new sheet.new) }
 {
     let mut drawing = Drawing::new(limits, rows);
     let played = play_rest(&mut drawing, sheet, lines, text);
@@ -98,16 +89,16 @@ fn play_drawn(
 fn play_rest(
     drawing: &mut Drawing<'_>,
     sheet: &mut [u8],
-    lines: &mut Lines<'_>,
+    lines: Lines<'_>,
     text: &mut String,
 ) -> Result<(), AllocError>
-    ensures cases { (rows size : ℕ) → MatchResult result (λ _. Ends rows size (moment_over drawing.old sheet.old lines.old (string_bytes text.old)) (Just (study_of drawing.new sheet.new)) (string_bytes text.new)) (λ _. Stops rows size (moment_over drawing.old sheet.old lines.old (string_bytes text.old)) (Just (study_of drawing.new sheet.new))) }
+    ensures cases { (rows size : ℕ) → MatchResult result (λ _. Ends rows size (moment_over drawing.old sheet.old lines.entry (string_bytes text.old)) (Just (study_of drawing.new sheet.new)) (string_bytes text.new)) (λ _. Stops rows size (moment_over drawing.old sheet.old lines.entry (string_bytes text.old)) (Just (study_of drawing.new sheet.new))) }
     ensures over { (rows : List Row) → Over rows drawing.old → Over rows drawing.new }
     ensures lender { lender_of drawing.new ≡ lender_of drawing.old }
 {
-    while let Some((bytes, number)) = lines.next() {
-        let reply = answer_line(drawing, sheet, bytes, number);
-        put(text, reply)?;
+    for (bytes, number) in lines {
+        let answer = answer_line(drawing, sheet, bytes);
+        put(text, answer, number)?;
     }
     Ok(())
 }
@@ -116,22 +107,20 @@ fn play_rest(
 fn begin_line(bytes: &[u8]) -> Result<Sectors, TextFault>
     ensures cases { (rows size i : ℕ) → MatchResult result (λ l. Answered rows size Nothing i bytes.now Done (Just (begun (limits_of l) rows size))) (λ f. Answered rows size Nothing i bytes.now (Refused (text_refusal f) i) Nothing) }
 {
-    match read_line(bytes, false) {
-        Ok(line) => begin(line),
-        Err(field) => Err(TextFault::Field(field)),
-    }
+    begin(read_line(bytes, false)?)
 }
 
-// Plays a line over a drawing and its sheet, and answers its reply.
-fn answer_line(drawing: &mut Drawing<'_>, sheet: &mut [u8], bytes: &[u8], number: u32) -> Reply
-    ensures cases { (rows size : ℕ) → Answered rows size (Just (study_of drawing.old sheet.old)) number bytes.now result (Just (study_of drawing.new sheet.new)) }
+// Plays a line over a drawing and its sheet, and answers its reply; else its fault, where nothing is changed.
+fn answer_line(
+    drawing: &mut Drawing<'_>,
+    sheet: &mut [u8],
+    bytes: &[u8],
+) -> Result<Reply, TextFault>
+    ensures cases { (rows size i : ℕ) → Answered rows size (Just (study_of drawing.old sheet.old)) i bytes.now (numbered_as result i) (Just (study_of drawing.new sheet.new)) }
     ensures over { (rows : List Row) → Over rows drawing.old → Over rows drawing.new }
     ensures lender { lender_of drawing.new ≡ lender_of drawing.old }
 {
-    match read_line(bytes, true) {
-        Ok(line) => numbered(carry_out(drawing, sheet, line), number),
-        Err(field) => numbered(Err(TextFault::Field(field)), number),
-    }
+    carry_out(drawing, sheet, read_line(bytes, true)?)
 }
 
 // The reply to the line with this number: its answer, or its refusal with that number.
@@ -141,18 +130,16 @@ fn numbered(answer: Result<Reply, TextFault>, line: u32) -> Reply
     match answer {
         Ok(reply) => reply,
         Err(fault) => Reply::Refused {
-            refusal: fault.refusal(),
+            refusal: fault.into(),
             line,
         },
     }
 }
 
-// Writes a reply and a newline behind the text.
-fn put(text: &mut String, reply: Reply) -> Result<(), AllocError>
-    ensures bytes { OnOk result (string_bytes text.new ≡ string_bytes text.old ++ (reply_text reply ++ (10 ∷ []))) }
+// Writes the reply to the line with this number and a newline behind the text.
+fn put(text: &mut String, answer: Result<Reply, TextFault>, line: u32) -> Result<(), AllocError>
+    ensures bytes { OnOk result (string_bytes text.new ≡ string_bytes text.old ++ (reply_text (numbered_as answer line) ++ (10 ∷ []))) }
 {
-    match writeln!(text, "{reply}") {
-        Ok(()) => Ok(()),
-        Err(_) => Err(AllocError),
-    }
+    let reply = numbered(answer, line);
+    writeln!(text, "{reply}")
 }

@@ -18,9 +18,9 @@ returns-then-is_empty c =
 pub returns-then-field-gt1 : goal.returns-then-field-gt1
 returns-then-field-gt1 c = record { cases = λ n. omega (arith, number_first c.args.field.now n c.if-field-eq48.true) }
 
-pub returns-then-digit-lt48 : goal.returns-then-digit-lt48
-returns-then-digit-lt48 c =
-    record { cases = λ n. omega (arith, number_digits c.args.field.now n c.loop-digit.digit-index c.loop-digit-test.true) }
+pub returns-then-not-is_ascii_digit : goal.returns-then-not-is_ascii_digit
+returns-then-not-is_ascii_digit c =
+    record { cases = λ n. omega (arith, c.if-not-is_ascii_digit.ensures.cases, number_digits c.args.field.now n c.loop-digit.digit-index c.loop-digit-test.true) }
 
 pub overflow_mul-value : goal.overflow_mul-value
 overflow_mul-value c =
@@ -34,7 +34,7 @@ pub loop-digit-preserved : goal.loop-digit-preserved
 loop-digit-preserved c =
     let f = c.args.field.now in
     let i = c.loop-digit.digit-index in
-    let here : IsInRange 48 57 (get_or f i 0) = omega arith in
+    let here : IsInRange 48 57 (get_or f i 0) = c.if-not-is_ascii_digit.ensures.cases in
     let step = front_more f i c.loop-digit.invariant.0 c.loop-digit-test.true here in
     (below_more _ _ c.loop-digit.invariant.0 here, omega (arith, step, c.loop-digit.invariant.1))
 

@@ -8,5 +8,5 @@ returns c =
     let new = c.new-drawing.ensures in
     let rest = c.play_rest-played.ensures in
     record {
-      cases = λ size. play_new c.args.rows.now _ c.new-drawing.result c.play_rest-played.new.drawing (limits_of c.args.limits) c.args.sheet.now c.play_rest-played.new.sheet c.args.lines.now (string_bytes c.args.text.now) (string_bytes c.play_rest-played.new.text) c.play_rest-played.result size new.limits new.edges new.rows new.spare (search rules) rest.over (rest.cases (length c.args.rows.now) size);
+      cases = λ size. play_new c.args.rows.now _ c.new-drawing.result c.play_rest-played.new.drawing (limits_of c.args.limits) c.args.sheet.now c.play_rest-played.new.sheet c.args.lines (string_bytes c.args.text.now) (string_bytes c.play_rest-played.new.text) c.play_rest-played.result size new.limits new.edges new.rows new.spare (search rules) rest.over (rest.cases (length c.args.rows.now) size);
     }
