@@ -6,6 +6,7 @@ use Rattle.std.proofs.lemmas.Fmt.{decimal_is_IsNumeral}
 use Rattle.std.proofs.lemmas.List.{take-take}
 use Rattle.std.proofs.lemmas.Bool.{and_parts, cases_order, not-true}
 use Rattle.plan.specs.Studies.{Study}
+use Rattle.plan.specs.declared.change.Change.TheVariants as change
 use Rattle.text.specs.Kinds.{kind_of, word_of}
 use Rattle.text.specs.Lines.{Agree, LowestWrong, Misread, Sound, Spelled, fields_of, written}
 use Rattle.text.specs.Numbers.{Small}
@@ -59,10 +60,10 @@ lacks_word kind.Measure = lacks_tabless (word_of kind.Measure) refl
 
 written_fields : (l : Line) → Spelled l → Fields (written l) (fields_of l)
 written_fields (line.Sectors s b h) t = record { some = omega arith; clean = (lacks_word kind.Sectors, (lacks_decimal s t.0, (lacks_decimal b t.1, (lacks_decimal h t.2, tt)))); whole = refl }
-written_fields (line.Edge start end size leaving arriving) t = record { some = omega arith; clean = (lacks_word kind.Edge, (lacks_decimal start t.0, (lacks_decimal end t.1, (lacks_decimal size t.2, (lacks_decimal leaving t.3, (lacks_decimal arriving t.4, tt)))))); whole = refl }
-written_fields (line.Close edge) t = record { some = omega arith; clean = (lacks_word kind.Close, (lacks_decimal edge t, tt)); whole = refl }
-written_fields (line.Open edge) t = record { some = omega arith; clean = (lacks_word kind.Open, (lacks_decimal edge t, tt)); whole = refl }
-written_fields (line.Measure edge size) t = record { some = omega arith; clean = (lacks_word kind.Measure, (lacks_decimal edge t.0, (lacks_decimal size t.1, tt))); whole = refl }
+written_fields (line.Change (change.Draw e)) t = record { some = omega arith; clean = (lacks_word kind.Edge, (lacks_decimal e.start t.0, (lacks_decimal e.end t.1, (lacks_decimal e.length t.2, (lacks_decimal e.leaving t.3, (lacks_decimal e.arriving t.4, tt)))))); whole = refl }
+written_fields (line.Change (change.Close edge)) t = record { some = omega arith; clean = (lacks_word kind.Close, (lacks_decimal edge t, tt)); whole = refl }
+written_fields (line.Change (change.Open edge)) t = record { some = omega arith; clean = (lacks_word kind.Open, (lacks_decimal edge t, tt)); whole = refl }
+written_fields (line.Change (change.Measure edge size)) t = record { some = omega arith; clean = (lacks_word kind.Measure, (lacks_decimal edge t.0, (lacks_decimal size t.1, tt))); whole = refl }
 
 -- a line comes back from its fields
 number_at : List (List ℕ) → ℕ → ℕ
@@ -70,10 +71,10 @@ number_at fs k = digits_value 10 (get_or fs k [])
 
 built : Kind → List (List ℕ) → Line
 built kind.Sectors fs = line.Sectors (number_at fs 1) (number_at fs 2) (number_at fs 3)
-built kind.Edge fs = line.Edge (number_at fs 1) (number_at fs 2) (number_at fs 3) (number_at fs 4) (number_at fs 5)
-built kind.Close fs = line.Close (number_at fs 1)
-built kind.Open fs = line.Open (number_at fs 1)
-built kind.Measure fs = line.Measure (number_at fs 1) (number_at fs 2)
+built kind.Edge fs = line.Change (change.Draw (record { start = number_at fs 1; end = number_at fs 2; length = number_at fs 3; leaving = number_at fs 4; arriving = number_at fs 5 }))
+built kind.Close fs = line.Change (change.Close (number_at fs 1))
+built kind.Open fs = line.Change (change.Open (number_at fs 1))
+built kind.Measure fs = line.Change (change.Measure (number_at fs 1) (number_at fs 2))
 
 back : (n : ℕ) → Small n → digits_value 10 (decimal n) ≡ n
 back n small = (decimal_is_IsNumeral n (omega arith)).1
@@ -81,17 +82,17 @@ back n small = (decimal_is_IsNumeral n (omega arith)).1
 built_back : (l : Line) → Spelled l → built (kind_of l) (fields_of l) ≡ l
 unfolding built number_at
 built_back (line.Sectors s b h) t = λ i. line.Sectors (back s t.0 i) (back b t.1 i) (back h t.2 i)
-built_back (line.Edge start end size leaving arriving) t = λ i. line.Edge (back start t.0 i) (back end t.1 i) (back size t.2 i) (back leaving t.3 i) (back arriving t.4 i)
-built_back (line.Close edge) t = λ i. line.Close (back edge t i)
-built_back (line.Open edge) t = λ i. line.Open (back edge t i)
-built_back (line.Measure edge size) t = λ i. line.Measure (back edge t.0 i) (back size t.1 i)
+built_back (line.Change (change.Draw e)) t = λ i. line.Change (change.Draw (record { start = back e.start t.0 i; end = back e.end t.1 i; length = back e.length t.2 i; leaving = back e.leaving t.3 i; arriving = back e.arriving t.4 i }))
+built_back (line.Change (change.Close edge)) t = λ i. line.Change (change.Close (back edge t i))
+built_back (line.Change (change.Open edge)) t = λ i. line.Change (change.Open (back edge t i))
+built_back (line.Change (change.Measure edge size)) t = λ i. line.Change (change.Measure (back edge t.0 i) (back size t.1 i))
 
 first_word : (l : Line) → get_or (fields_of l) 0 [] ≡ word_of (kind_of l)
 first_word (line.Sectors s b h) = refl
-first_word (line.Edge start end size leaving arriving) = refl
-first_word (line.Close edge) = refl
-first_word (line.Open edge) = refl
-first_word (line.Measure edge size) = refl
+first_word (line.Change (change.Draw e)) = refl
+first_word (line.Change (change.Close edge)) = refl
+first_word (line.Change (change.Open edge)) = refl
+first_word (line.Change (change.Measure edge size)) = refl
 
 line_same : (l k : Line) → Spelled l → Spelled k → fields_of l ≡ fields_of k → l ≡ k
 line_same l k s t e =

@@ -2,6 +2,7 @@
 use Rattle.std.proofs.Common.{◌≡◌, ℕ, zero, suc, ◌-◌, Bool, true, false, cond, not, eqb, List, [], ◌∷◌, map, length, get_or, drop, replicate, Ok, Err, codes, decimal, Result, sym, refl, ap, ◌∙◌, subst, arith}
 use Rattle.std.specs.List.{AllByRecursion}
 use Rattle.std.proofs.lemmas.Bool.{both_ways}
+use Rattle.plan.specs.declared.change.Change.TheVariants as change
 use Rattle.text.specs.Faults.{AtField}
 use Rattle.text.specs.Kinds.{NoLine, ReadAs, is_opening, kind_of, shape, word_of}
 use Rattle.text.specs.Lines.{Agree, LowestWrong, Sound, Spelled, fields_of, is_sectors, Reads}
@@ -67,26 +68,26 @@ behind l = drop 1 (fields_of l)
 fields_parts : (l : Line) → fields_of l ≡ word_of (kind_of l) ∷ behind l
 unfolding behind
 fields_parts (line.Sectors s b h) = refl
-fields_parts (line.Edge start end size leaving arriving) = refl
-fields_parts (line.Close edge) = refl
-fields_parts (line.Open edge) = refl
-fields_parts (line.Measure edge size) = refl
+fields_parts (line.Change (change.Draw e)) = refl
+fields_parts (line.Change (change.Close edge)) = refl
+fields_parts (line.Change (change.Open edge)) = refl
+fields_parts (line.Change (change.Measure edge size)) = refl
 
 spelled_fits : (l : Line) → Spelled l → Fits (shape (kind_of l)) (behind l)
 unfolding behind
 spelled_fits (line.Sectors s b h) t = ((s, (t.0, refl)), ((b, (t.1, refl)), ((h, (t.2, refl)), tt)))
-spelled_fits (line.Edge start end size leaving arriving) t =
-    ((start, (t.0, refl)), ((end, (t.1, refl)), ((size, (t.2, refl)), ((leaving, (t.3, refl)), ((arriving, (t.4, refl)), tt)))))
-spelled_fits (line.Close edge) t = ((edge, (t, refl)), tt)
-spelled_fits (line.Open edge) t = ((edge, (t, refl)), tt)
-spelled_fits (line.Measure edge size) t = ((edge, (t.0, refl)), ((size, (t.1, refl)), tt))
+spelled_fits (line.Change (change.Draw e)) t =
+    ((e.start, (t.0, refl)), ((e.end, (t.1, refl)), ((e.length, (t.2, refl)), ((e.leaving, (t.3, refl)), ((e.arriving, (t.4, refl)), tt)))))
+spelled_fits (line.Change (change.Close edge)) t = ((edge, (t, refl)), tt)
+spelled_fits (line.Change (change.Open edge)) t = ((edge, (t, refl)), tt)
+spelled_fits (line.Change (change.Measure edge size)) t = ((edge, (t.0, refl)), ((size, (t.1, refl)), tt))
 
 opening_line : (l : Line) → is_opening (kind_of l) ≡ is_sectors l
 opening_line (line.Sectors s b h) = refl
-opening_line (line.Edge start end size leaving arriving) = refl
-opening_line (line.Close edge) = refl
-opening_line (line.Open edge) = refl
-opening_line (line.Measure edge size) = refl
+opening_line (line.Change (change.Draw e)) = refl
+opening_line (line.Change (change.Close edge)) = refl
+opening_line (line.Change (change.Open edge)) = refl
+opening_line (line.Change (change.Measure edge size)) = refl
 
 -- the first letter tells the word
 kind_by : ℕ → Kind
@@ -124,16 +125,16 @@ fits_line kind.Sectors gs t =
     (line.Sectors (get_or ns 0 0) (get_or ns 1 0) (get_or ns 2 0), (s.0, s.1.0, s.1.1.0), refl, ap (λ x. codes "sectors" ∷ x) (sym e))
 fits_line kind.Edge gs t =
     let (ns, (e, s)) = fits_numbers 5 gs t in
-    (line.Edge (get_or ns 0 0) (get_or ns 1 0) (get_or ns 2 0) (get_or ns 3 0) (get_or ns 4 0), (s.0, s.1.0, s.1.1.0, s.1.1.1.0, s.1.1.1.1.0), refl, ap (λ x. codes "edge" ∷ x) (sym e))
+    (line.Change (change.Draw (record { start = get_or ns 0 0; end = get_or ns 1 0; length = get_or ns 2 0; leaving = get_or ns 3 0; arriving = get_or ns 4 0 })), (s.0, s.1.0, s.1.1.0, s.1.1.1.0, s.1.1.1.1.0), refl, ap (λ x. codes "edge" ∷ x) (sym e))
 fits_line kind.Close gs t =
     let (ns, (e, s)) = fits_numbers 1 gs t in
-    (line.Close (get_or ns 0 0), s.0, refl, ap (λ x. codes "close" ∷ x) (sym e))
+    (line.Change (change.Close (get_or ns 0 0)), s.0, refl, ap (λ x. codes "close" ∷ x) (sym e))
 fits_line kind.Open gs t =
     let (ns, (e, s)) = fits_numbers 1 gs t in
-    (line.Open (get_or ns 0 0), s.0, refl, ap (λ x. codes "open" ∷ x) (sym e))
+    (line.Change (change.Open (get_or ns 0 0)), s.0, refl, ap (λ x. codes "open" ∷ x) (sym e))
 fits_line kind.Measure gs t =
     let (ns, (e, s)) = fits_numbers 2 gs t in
-    (line.Measure (get_or ns 0 0) (get_or ns 1 0), (s.0, s.1.0), refl, ap (λ x. codes "measure" ∷ x) (sym e))
+    (line.Change (change.Measure (get_or ns 0 0) (get_or ns 1 0)), (s.0, s.1.0), refl, ap (λ x. codes "measure" ∷ x) (sym e))
 
 -- some fields that fit
 zeros : (n : ℕ) → Fits (replicate n Number) (replicate n (decimal 0))
@@ -149,7 +150,7 @@ sample kind.Measure = (replicate 2 (decimal 0), zeros 2)
 
 -- there is always a line that may come
 some_line : (started : Bool) → (l : Line) × Sound started l
-some_line true = (line.Close 0, (omega arith, refl))
+some_line true = (line.Change (change.Close 0), (omega arith, refl))
 some_line false = (line.Sectors 0 0 0, ((omega arith, omega arith, omega arith), refl))
 
 module _ (started : Bool) where

@@ -8,6 +8,7 @@
 -- Assumes nothing.
 use Rattle.std.specs.Prelude.{◌≡◌, ℕ, Bool, true, false, List, ◌∷◌, replicate, codes, Result, MatchResult}
 use Rattle.text.specs.Faults.{AtField}
+use Rattle.plan.specs.declared.change.Change.TheVariants as change
 use Rattle.text.specs.Lines.{Misread, Spelled, fields_of}
 use Rattle.text.specs.Numbers.{Number}
 use Rattle.text.specs.Pieces.{split}
@@ -27,10 +28,10 @@ word_of kind.Measure = codes "measure"
 
 abbrev pub kind_of : Line → Kind
 kind_of (line.Sectors s b h) = kind.Sectors
-kind_of (line.Edge start end size leaving arriving) = kind.Edge
-kind_of (line.Close edge) = kind.Close
-kind_of (line.Open edge) = kind.Open
-kind_of (line.Measure edge size) = kind.Measure
+kind_of (line.Change (change.Draw e)) = kind.Edge
+kind_of (line.Change (change.Close edge)) = kind.Close
+kind_of (line.Change (change.Open edge)) = kind.Open
+kind_of (line.Change (change.Measure edge size)) = kind.Measure
 
 abbrev pub is_opening : Kind → Bool
 is_opening kind.Sectors = true

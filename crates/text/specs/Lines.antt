@@ -12,35 +12,33 @@
 -- Assumes nothing.
 use Rattle.std.specs.Prelude.{◌≡◌, ℕ, ◌-◌, ◌≤◌, Bool, true, false, not, List, [], ◌∷◌, length, take, codes, decimal, Result, MatchResult, ◌≢◌}
 use Rattle.text.specs.Faults.{AtField}
+use Rattle.plan.specs.declared.change.Change.TheVariants.{Draw, Measure, Close, Open}
 use Rattle.text.specs.Numbers.{Small}
 use Rattle.text.specs.Pieces.{Fields, joined}
 use Rattle.text.specs.declared.fault.TextFault.{TextFault}
 use Rattle.text.specs.declared.line.Line.{Line}
-use Rattle.text.specs.declared.line.Line.TheVariants.{Sectors, Edge, Close, Open, Measure}
+use Rattle.text.specs.declared.line.Line.TheVariants.{Sectors, Change}
 
 abbrev pub fields_of : Line → List (List ℕ)
 fields_of (Sectors s b h) = codes "sectors" ∷ decimal s ∷ decimal b ∷ decimal h ∷ []
-fields_of (Edge start end size leaving arriving) = codes "edge" ∷ decimal start ∷ decimal end ∷ decimal size ∷ decimal leaving ∷ decimal arriving ∷ []
-fields_of (Close edge) = codes "close" ∷ decimal edge ∷ []
-fields_of (Open edge) = codes "open" ∷ decimal edge ∷ []
-fields_of (Measure edge size) = codes "measure" ∷ decimal edge ∷ decimal size ∷ []
+fields_of (Change (Draw e)) = codes "edge" ∷ decimal e.start ∷ decimal e.end ∷ decimal e.length ∷ decimal e.leaving ∷ decimal e.arriving ∷ []
+fields_of (Change (Close edge)) = codes "close" ∷ decimal edge ∷ []
+fields_of (Change (Open edge)) = codes "open" ∷ decimal edge ∷ []
+fields_of (Change (Measure edge size)) = codes "measure" ∷ decimal edge ∷ decimal size ∷ []
 
 abbrev pub written : Line → List ℕ
 written l = joined (fields_of l)
 
 abbrev pub Spelled : Line → Type 0
 Spelled (Sectors s b h) = Small s × Small b × Small h
-Spelled (Edge start end size leaving arriving) = Small start × Small end × Small size × Small leaving × Small arriving
-Spelled (Close edge) = Small edge
-Spelled (Open edge) = Small edge
-Spelled (Measure edge size) = Small edge × Small size
+Spelled (Change (Draw e)) = Small e.start × Small e.end × Small e.length × Small e.leaving × Small e.arriving
+Spelled (Change (Close edge)) = Small edge
+Spelled (Change (Open edge)) = Small edge
+Spelled (Change (Measure edge size)) = Small edge × Small size
 
 abbrev pub is_sectors : Line → Bool
 is_sectors (Sectors s b h) = true
-is_sectors (Edge start end size leaving arriving) = false
-is_sectors (Close edge) = false
-is_sectors (Open edge) = false
-is_sectors (Measure edge size) = false
+is_sectors (Change c) = false
 
 abbrev pub Sound : Bool → Line → Type 0
 Sound started l = Spelled l × (is_sectors l ≡ not started)

@@ -6,9 +6,7 @@
 --   started st                whether a `sectors` line was accepted
 --   begins l                  what the line l answers where no study is begun: the limits of the drawing, or why not
 --   asked s l                 what the call that the line l asks for answers in the study s
---   drawing ..                the change that draws the edge of five numbers
 --   reply_of n                the reply to a change that was made: `edge` with the number n of the edge that it drew, else `ok`
---   made s c                  what making the change c answers in the study s
 --   moved s l                 the study after that call: a refused one changes nothing
 --   called st l               what the line l answers in the state st, with no line number
 --   numbered r i              the reply to the line number i of the answer r
@@ -30,8 +28,6 @@ use Rattle.std.specs.Prelude.{◌≡◌, ℕ, ◌+◌, Bool, true, false, ◌⊎
 use Rattle.turns.specs.Sectors.{Limits, limits_answer}
 use Rattle.turns.specs.declared.fault.PlanFault.{PlanFault}
 use Rattle.plan.specs.Studies.{Study, answered, begun, next, number_drawn, refusal_of}
-use Rattle.plan.specs.declared.change.Change.{Change}
-use Rattle.plan.specs.declared.change.Change.TheVariants as change
 use Rattle.plan.specs.declared.row.EdgeRow.{EdgeRow}
 use Rattle.text.specs.Faults.{by_text, text_refusal}
 use Rattle.text.specs.Lines.{Misread, Sound, written}
@@ -54,34 +50,19 @@ told f (Err p) = Err (Plan p)
 
 abbrev pub begins : Line → Result Limits TextFault
 begins (line.Sectors s b h) = told (λ l. l) (limits_answer s b h)
-begins (line.Edge start end size leaving arriving) = Err (Field 1)
-begins (line.Close edge) = Err (Field 1)
-begins (line.Open edge) = Err (Field 1)
-begins (line.Measure edge size) = Err (Field 1)
-
-abbrev pub drawing : ℕ → ℕ → ℕ → ℕ → ℕ → Change
-drawing start end size leaving arriving = change.Draw (record { start = start; end = end; length = size; leaving = leaving; arriving = arriving })
+begins (line.Change c) = Err (Field 1)
 
 abbrev pub reply_of : Option ℕ → Reply
 reply_of (Some edge) = Edge edge
 reply_of None = Done
 
-abbrev pub made : Study → Change → Result Reply TextFault
-made s c = told reply_of (answered (refusal_of s c) (number_drawn s c))
-
 abbrev pub asked : Study → Line → Result Reply TextFault
 asked s (line.Sectors a b h) = Err (Field 1)
-asked s (line.Edge start end size leaving arriving) = made s (drawing start end size leaving arriving)
-asked s (line.Close edge) = made s (change.Close edge)
-asked s (line.Open edge) = made s (change.Open edge)
-asked s (line.Measure edge size) = made s (change.Measure edge size)
+asked s (line.Change c) = told reply_of (answered (refusal_of s c) (number_drawn s c))
 
 abbrev pub moved : Study → Line → Study
 moved s (line.Sectors a b h) = s
-moved s (line.Edge start end size leaving arriving) = next s (drawing start end size leaving arriving)
-moved s (line.Close edge) = next s (change.Close edge)
-moved s (line.Open edge) = next s (change.Open edge)
-moved s (line.Measure edge size) = next s (change.Measure edge size)
+moved s (line.Change c) = next s c
 
 abbrev pub begun_by : ℕ → ℕ → Result Limits TextFault → Option Study
 begun_by rows size (Ok l) = Some (begun l rows size)

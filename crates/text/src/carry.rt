@@ -9,7 +9,7 @@ ghost use Rattle.text.specs.Runs.{begun_with};
 use crate::fault::TextFault;
 use crate::line::Line;
 use crate::reply::Reply;
-use plan::{Change, Drawing, NewEdge, apply};
+use plan::{Drawing, apply};
 use turns::Sectors;
 
 // The limits that a line begins a drawing with; else the fault of that line, where no drawing is begun.
@@ -33,27 +33,11 @@ pub(crate) fn carry_out(
     ensures over { (rows : List Row) → Over rows drawing.old → Over rows drawing.new }
     ensures lender { lender_of drawing.new ≡ lender_of drawing.old }
 {
-    let change = match line {
-        Line::Sectors { .. } => return Err(TextFault::Field(1)),
-        Line::Edge {
-            start,
-            end,
-            length,
-            leaving,
-            arriving,
-        } => Change::Draw(NewEdge {
-            start,
-            end,
-            length,
-            leaving,
-            arriving,
-        }),
-        Line::Close { edge } => Change::Close { edge },
-        Line::Open { edge } => Change::Open { edge },
-        Line::Measure { edge, length } => Change::Measure { edge, length },
-    };
-    match apply(drawing, sheet, change)? {
-        Some(edge) => Ok(Reply::Edge(edge)),
-        None => Ok(Reply::Done),
+    match line {
+        Line::Sectors { .. } => Err(TextFault::Field(1)),
+        Line::Change(change) => match apply(drawing, sheet, change)? {
+            Some(edge) => Ok(Reply::Edge(edge)),
+            None => Ok(Reply::Done),
+        },
     }
 }

@@ -9,6 +9,7 @@ use super::cursor::Cursor;
 use super::fault::TextFault;
 use super::kind::Kind;
 use super::line::Line;
+use plan::{Change, NewEdge};
 
 /// The place of a line's word.
 const FIRST: u32 = 1;
@@ -27,25 +28,25 @@ fn read_fields(kind: Kind, fields: &mut Cursor<'_>) -> Result<Line, TextFault>
         }
         Kind::Edge => {
             let [start, end, length, leaving, arriving] = fields.numbers::<5>(SECOND)?;
-            Ok(Line::Edge {
+            Ok(Line::Change(Change::Draw(NewEdge {
                 start,
                 end,
                 length,
                 leaving,
                 arriving,
-            })
+            })))
         }
         Kind::Close => {
             let [edge] = fields.numbers::<1>(SECOND)?;
-            Ok(Line::Close { edge })
+            Ok(Line::Change(Change::Close { edge }))
         }
         Kind::Open => {
             let [edge] = fields.numbers::<1>(SECOND)?;
-            Ok(Line::Open { edge })
+            Ok(Line::Change(Change::Open { edge }))
         }
         Kind::Measure => {
             let [edge, length] = fields.numbers::<2>(SECOND)?;
-            Ok(Line::Measure { edge, length })
+            Ok(Line::Change(Change::Measure { edge, length }))
         }
     }
 }
