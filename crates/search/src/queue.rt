@@ -3,7 +3,6 @@ ghost use Rattle.std.specs.Prelude.{◌≡◌, ℕ, ◌+◌, ◌-◌, ◌<◌, �
 ghost use Rattle.search.specs.Queues.{Least, edge_in, moved_up, put_in};
 
 use crate::label::Label;
-use crate::order::key_before;
 use cost::CostKind;
 
 /// A place in the queue of a search. What it holds before and after a question is of no meaning.
@@ -29,7 +28,7 @@ pub(crate) fn least<C: CostKind>(labels: &[Label<C>], queue: &[QueueSlot], len: 
     for at in 1..len {
         let x = labels[queue[at].edge as usize];
         let y = labels[queue[best].edge as usize];
-        if key_before(&x, &y) {
+        if x.is_nearer(&y) {
             best = at;
         }
     }

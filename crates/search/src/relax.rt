@@ -8,7 +8,6 @@ ghost use Rattle.search.specs.Stages.{Keeps, Working};
 use crate::ground::Ground;
 use crate::label::Label;
 use crate::offer::offer;
-use crate::order::label_before;
 use crate::queue::{QueueSlot, put_in};
 use cost::CostKind;
 use rules::TurnRule;
@@ -39,7 +38,7 @@ pub(crate) fn relax<R: TurnRule, C: CostKind>(
         labels[at] = new;
         return put_in(queue, len, to);
     }
-    if label_before(&new, &old) {
+    if new.is_before(&old) {
         labels[at] = new;
     }
     len

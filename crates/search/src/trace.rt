@@ -27,10 +27,9 @@ pub(crate) fn trace<R: TurnRule, C: CostKind>(
     let edges = ground.drawing.edges();
     let ending = labels[last as usize];
     let mut at = last;
-    let mut place = ending.edges as usize - 1;
     let mut charge = 0;
     let mut length = edges[last as usize].length;
-    while place > 0 {
+    for place in (1..ending.edges as usize).rev() {
         route[place] = at;
         let reached = labels[at as usize];
         charge += ground
@@ -38,7 +37,6 @@ pub(crate) fn trace<R: TurnRule, C: CostKind>(
             .charge(ground.drawing, reached.previous as u32, at as u32);
         at = reached.previous;
         length += edges[at as usize].length;
-        place -= 1;
     }
     route[0] = at;
     (charge, length)

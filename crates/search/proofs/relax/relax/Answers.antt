@@ -30,21 +30,21 @@ returns-then-old-eq0 g c =
           c.index-labels-at.result c.in-Some.new c.index-labels-at.is c.in-Some.ensures.cases c.if-old-eq0.true);
     }
 
-pub returns-then-label_before : goal.returns-then-label_before
-returns-then-label_before g c =
+pub returns-then-is_before : goal.returns-then-is_before
+returns-then-is_before g c =
     let some : 0 < c.index-labels-at.result.edges = omega arith in
     record {
       working = working_better g.R.TurnRule g.C.CostKind g.met.C.CostKind.measured c.args.ground.now c.args.labels.now c.args.queue.now c.args.len c.requires.working c.args.x c.args.from c.args.to c.requires.drawn
           c.index-labels-at.result c.in-Some.new c.index-labels-at.is c.in-Some.ensures.cases some;
       keeps = keeps_better g.R.TurnRule g.C.CostKind g.met.C.CostKind.measured c.args.ground.now c.args.labels.now c.args.queue.now c.args.len c.requires.working c.args.x c.args.from c.args.to c.requires.drawn
-          c.index-labels-at.result c.in-Some.new c.index-labels-at.is c.in-Some.ensures.cases some c.if-label_before.ensures.cases;
+          c.index-labels-at.result c.in-Some.new c.index-labels-at.is c.in-Some.ensures.cases some c.if-is_before.ensures.cases;
     }
 
-pub returns-else-label_before : goal.returns-else-label_before
-returns-else-label_before g c =
+pub returns-else-is_before : goal.returns-else-is_before
+returns-else-is_before g c =
     let some : 0 < c.index-labels-at.result.edges = omega arith in
     record {
       working = c.requires.working;
       keeps = keeps_old g.R.TurnRule g.C.CostKind g.met.C.CostKind.measured c.args.ground.now c.args.labels.now c.args.queue.now c.args.len c.requires.working c.args.x c.args.from c.args.to c.requires.drawn
-          c.index-labels-at.result c.in-Some.new c.index-labels-at.is c.in-Some.ensures.cases some c.if-label_before.ensures.cases;
+          c.index-labels-at.result c.in-Some.new c.index-labels-at.is c.in-Some.ensures.cases some c.if-is_before.ensures.cases;
     }

@@ -1,4 +1,4 @@
-use Rattle.std.proofs.Common.{◌<◌, length}
+use Rattle.std.proofs.Common.{◌-◌, ◌<◌, ◌≤◌, length}
 use Rattle.search.specs.Grounds.{net_of}
 use Rattle.search.specs.Labels.{label_in}
 use Rattle.search.proofs.Traces.{Tracing}
@@ -6,8 +6,5 @@ use Rattle.search.proofs.trace.trace.Given as goal
 
 abbrev pub invariant-loop-place : goal.invariant-loop-place
 invariant-loop-place g l =
-    (l.at < length l.labels) × (l.place < length l.route)
-    × Tracing (net_of g.R.TurnRule g.C.CostKind l.ground) (label_in g.C.CostKind l.labels) l.last l.initial.route l.at l.place l.route l.charge l.length
-
-abbrev pub decreases-loop-place : goal.decreases-loop-place
-decreases-loop-place g l = l.place
+    (l.at < length l.labels) × (l.place ≤ length l.route)
+    × Tracing (net_of g.R.TurnRule g.C.CostKind l.ground) (label_in g.C.CostKind l.labels) l.last l.initial.route l.at (l.place - 1) l.route l.charge l.length
