@@ -71,13 +71,14 @@ impl CostKind for Charge {
         ))
     }
 
-    fn add(&mut self, charge: u32, length: u32) -> bool {
+    fn add(self, charge: u32, length: u32) -> Option<Charge> {
         let additions = self.additions();
         if !addable(charge, length, additions) {
-            return false;
+            return None;
         }
-        self.sum = raised(MOST_CHARGE, self.additions, self.sum, charge as u64);
-        self.additions = additions + 1;
-        true
+        Some(Charge {
+            additions: additions + 1,
+            sum: raised(MOST_CHARGE, self.additions, self.sum, charge as u64),
+        })
     }
 }

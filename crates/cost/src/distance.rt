@@ -71,13 +71,14 @@ impl CostKind for Distance {
         ))
     }
 
-    fn add(&mut self, charge: u32, length: u32) -> bool {
+    fn add(self, charge: u32, length: u32) -> Option<Distance> {
         let additions = self.additions();
         if !addable(charge, length, additions) {
-            return false;
+            return None;
         }
-        self.sum = raised(MOST_LENGTH, self.additions, self.sum, length as u64);
-        self.additions = additions + 1;
-        true
+        Some(Distance {
+            additions: additions + 1,
+            sum: raised(MOST_LENGTH, self.additions, self.sum, length as u64),
+        })
     }
 }

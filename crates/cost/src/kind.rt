@@ -1,5 +1,5 @@
 // What every kind of cost has: settings, a number of additions and a row of whole numbers.
-ghost use Rattle.std.specs.Prelude.{◌≡◌, ℕ, ◌+◌, ◌≤◌, true, false, List, length as size};
+ghost use Rattle.std.specs.Prelude.{◌≡◌, ℕ, ◌+◌, ◌≤◌, List, IfSome, is_some, length as size};
 ghost use Rattle.cost.specs.Adding.{addable, Allowed};
 ghost use Rattle.cost.specs.Orders.{Orders};
 ghost use Rattle.cost.specs.Rows.{plus, zeros};
@@ -40,13 +40,12 @@ pub trait CostKind: Copy {
     fn compare(&self, other: &Self) -> Ordering
         ensures value { Orders result (row self.now) (row other.now) };
 
-    /// Adds a charge and a length, and answers yes; at a charge above 1,000, a length above 100,000 or a 1,025th addition it answers no and keeps the cost.
-    fn add(&mut self, charge: u32, length: u32) -> bool
-        ensures value { result ≡ addable charge length (additions self.old) }
-        ensures same { settings self.new ≡ settings self.old }
-        ensures count { result ≡ true → additions self.new ≡ additions self.old + 1 }
-        ensures sum { result ≡ true → row self.new ≡ plus (row self.old) (amount (settings self.old) charge length) }
-        ensures kept { result ≡ false → self.new ≡ self.old };
+    /// The cost with a charge and a length added; none at a charge above 1,000, a length above 100,000 or a 1,025th addition.
+    fn add(self, charge: u32, length: u32) -> Option<Self>
+        ensures value { is_some result ≡ addable charge length (additions self) }
+        ensures same { IfSome result (λ c. settings c ≡ settings self) }
+        ensures count { IfSome result (λ c. additions c ≡ additions self + 1) }
+        ensures sum { IfSome result (λ c. row c ≡ plus (row self) (amount (settings self) charge length)) };
 
     // Every row has the places of its kind.
     ghost even: { (c : Self) → size (row c) ≡ places };

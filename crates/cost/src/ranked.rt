@@ -6,7 +6,6 @@ ghost use Rattle.std.proofs.Common.{◌∙◌, sym, rules};
 ghost use Rattle.cost.specs.RowLaws.{lengths_append, allowed_append};
 
 use crate::kind::CostKind;
-use crate::reading::addable;
 use std::cmp::Ordering;
 
 /// Two costs side by side, the first of which goes before the second.
@@ -69,12 +68,10 @@ impl<A: CostKind, B: CostKind> CostKind for Ranked<A, B> {
             .then(self.second.compare(&other.second))
     }
 
-    fn add(&mut self, charge: u32, length: u32) -> bool {
-        if !addable(charge, length, self.additions()) {
-            return false;
-        }
-        self.first.add(charge, length);
-        self.second.add(charge, length);
-        true
+    fn add(self, charge: u32, length: u32) -> Option<Ranked<A, B>> {
+        Some(Ranked {
+            first: self.first.add(charge, length)?,
+            second: self.second.add(charge, length)?,
+        })
     }
 }

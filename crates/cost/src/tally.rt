@@ -96,18 +96,17 @@ impl CostKind for Tally {
         self.row().cmp(&other.row())
     }
 
-    fn add(&mut self, charge: u32, length: u32) -> bool {
+    fn add(self, charge: u32, length: u32) -> Option<Tally> {
         let additions = self.additions();
         if !addable(charge, length, additions) {
-            return false;
+            return None;
         }
         let [heavy, middle, light] = mark(charge);
-        *self = Tally {
+        Some(Tally {
             additions: additions + 1,
             heavy: raised(1, self.additions, self.heavy, heavy),
             middle: raised(1, self.additions, self.middle, middle),
             light: raised(1, self.additions, self.light, light),
-        };
-        true
+        })
     }
 }

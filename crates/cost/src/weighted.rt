@@ -112,18 +112,16 @@ impl CostKind for Weighted {
         self.total().cmp(&other.total())
     }
 
-    fn add(&mut self, charge: u32, length: u32) -> bool {
+    fn add(self, charge: u32, length: u32) -> Option<Weighted> {
         let additions = self.additions();
         if !addable(charge, length, additions) {
-            return false;
+            return None;
         }
-        self.sum = raised(
-            self.most(),
-            self.additions,
-            self.sum,
-            self.amount(charge, length),
-        );
-        self.additions = additions + 1;
-        true
+        let amount = self.amount(charge, length);
+        Some(Weighted {
+            additions: additions + 1,
+            sum: raised(self.most(), self.additions, self.sum, amount),
+            ..self
+        })
     }
 }
