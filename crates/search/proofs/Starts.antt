@@ -1,17 +1,13 @@
 -- The lists of a search at its start, and what holds at its end.
-use Rattle.std.proofs.Common.{◌≡◌, ℕ, zero, suc, ◌+◌, ◌-◌, ◌<◌, ◌≤◌, Bool, true, cond, not, eqb, List, [], ◌∷◌, length, get_or, set, Some, None, sym, refl, ap, ◌∙◌, arith}
+use Rattle.std.proofs.Common.{◌≡◌, ℕ, zero, suc, ◌+◌, ◌-◌, ◌<◌, ◌≤◌, cond, not, eqb, List, [], ◌∷◌, length, get_or, set, Some, None, sym, refl, ap, ◌∙◌, arith}
 use Rattle.std.proofs.lemmas.Bool.{eq-eqb, ne_eqb, false≢true}
-use Rattle.cost.specs.Adding.{addable}
-use Rattle.cost.specs.Rows.{plus, zeros}
-use Rattle.cost.specs.AddLaws.{addable_from}
 use Rattle.cost.specs.declared.kind.CostKind.{Ghosts as Kind}
 use Rattle.rules.specs.declared.rule.TurnRule.{Ghosts as Rule}
-use Rattle.plan.specs.Plans.{edge_at, plan_of}
-use Rattle.walks.specs.Labels.{Certified, first_label, none}
+use Rattle.plan.specs.Plans.{plan_of}
+use Rattle.walks.specs.Labels.{Certified, first_label}
 use Rattle.walks.specs.Loop.{Inv, settled, tally, with_label}
 use Rattle.walks.proofs.Back.{label_from_parts}
 use Rattle.walks.proofs.Loop.{certified_same, inv_finish, inv_same, inv_start, settled_number, shut_certified}
-use Rattle.walks.proofs.Order.{zeros-plus}
 use Rattle.walks.proofs.Tally.{tally_none}
 use Rattle.search.specs.Grounds.{net_of, settings_of}
 use Rattle.search.specs.Labels.{Blank, Each, Fine, label_in, plain}
@@ -99,20 +95,3 @@ module _ {R C : Type 0} (T : Rule R) (K : Kind C) (g : Ground R C) (ls : List (L
   certified_done none_left =
       let e : len ≡ 0 = omega arith in
       inv_finish i (λ f. ap (λ m. in_queue slots m f) e)
-
--- the walk of one edge: the empty cost with one addition
-module _ {R C : Type 0} (K : Kind C) (measured : Measured K) (g : Ground R C) (a : ℕ) (empty cost : C) (long : ℕ) (reads : long ≡ (edge_at (plan_of g.drawing.now) a).length) (most : long ≤ 100000) (kept : K.settings empty ≡ settings_of K g) (unadded : K.additions empty ≡ 0) (nothing : K.row empty ≡ zeros K.places) where
-  pub opening_added : (r : Bool) → r ≡ addable 0 long (K.additions empty) → r ≡ true
-  opening_added r e = e ∙ ap (addable 0 long) unadded ∙ sym (addable_from 0 long 0 (omega arith) most (omega arith))
-
-  pub opening_fine : K.settings cost ≡ K.settings empty → K.additions cost ≡ K.additions empty + 1 → Fine K (settings_of K g) (record { cost = cost; edges = 1; previous = none })
-  opening_fine same count = record { kept = same ∙ kept; added = omega (arith, count, unadded); blank = λ e. absurd (omega (arith, e)) }
-
-  pub opening_opens : K.row cost ≡ plus (K.row empty) (K.amount (K.settings empty) 0 long) → Opens K g a (record { cost = cost; edges = 1; previous = none })
-  opening_opens sum =
-      record {
-        row = sum ∙ ap (λ z. plus z (K.amount (K.settings empty) 0 long)) nothing ∙ zeros-plus K.places (K.amount (K.settings empty) 0 long) (measured (K.settings empty) 0 long)
-            ∙ ap (λ s. K.amount s 0 long) kept ∙ ap (K.amount (settings_of K g) 0) reads;
-        edges = refl;
-        previous = refl;
-      }

@@ -46,8 +46,10 @@ fn opening<R, C: CostKind>(ground: &Ground<'_, '_, '_, '_, '_, R, C>, first: u16
     ensures fine { Fine C.CostKind (settings_of C.CostKind ground.now) result }
     ensures value { Opens C.CostKind ground.now first result }
 {
-    let mut cost = ground.cost.empty();
-    let _ = cost.add(0, ground.drawing.edges()[first as usize].length);
+    let length = ground.drawing.edges()[first as usize].length;
+    let Some(cost) = ground.cost.empty().add(0, length) else {
+        unreachable()
+    };
     Label {
         cost,
         edges: 1,

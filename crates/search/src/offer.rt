@@ -28,12 +28,8 @@ pub(crate) fn offer<R: TurnRule, C: CostKind>(
     }
     let charge = ground.rule.charge(ground.drawing, from as u32, to as u32);
     let length = ground.drawing.edges()[to as usize].length;
-    let mut cost = x.cost;
-    if !cost.add(charge, length) {
-        return None;
-    }
     Some(Label {
-        cost,
+        cost: x.cost.add(charge, length)?,
         edges: x.edges + 1,
         previous: from,
     })
