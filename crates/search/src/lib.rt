@@ -2,18 +2,17 @@
 #![tactic(auto)]
 
 mod answer;
+mod asking;
 mod clear;
-mod explore;
 mod fault;
 mod find;
+mod frontier;
 mod ground;
 mod label;
 mod offer;
 mod order;
 mod question;
 mod queue;
-mod relax;
-mod settle;
 mod trace;
 
 pub use answer::Answer;

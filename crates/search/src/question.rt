@@ -5,8 +5,8 @@ ghost use Rattle.search.specs.Histories.{Agrees, Always};
 ghost use Rattle.search.specs.Questions.{Answers, asked, checked, fault_by};
 
 use crate::answer::Answer;
+use crate::asking::Question;
 use crate::fault::QuestionFault;
-use crate::find::find;
 use crate::ground::Ground;
 use crate::label::Label;
 use crate::queue::QueueSlot;
@@ -67,20 +67,18 @@ fn answer<R: TurnRule, C: CostKind>(
         queue.len(),
         route.len(),
     )?;
-    let ground = Ground {
+    let question = Question {
         drawing,
         sheet,
         rule,
         cost,
+        first,
+        last,
     };
-    find(
-        &ground,
-        first as u16,
-        last as u16,
-        &mut labels[0..drawn],
-        queue,
-        route,
-    )
+    let ground = Ground {
+        question: &question,
+    };
+    ground.find(&mut labels[0..drawn], queue, route)
 }
 
 // Whether both edges are drawn and the four lists are long enough.

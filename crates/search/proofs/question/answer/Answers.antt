@@ -36,11 +36,8 @@ find-requires g c =
     let whole : length (take (d - 0) c.args.labels.now) ≡ d = ap (λ n. length (take n c.args.labels.now)) (sub-zero d) ∙ part in
     record {
       size = whole ∙ e;
-      covered = omega (arith, e, p.covered);
       room = omega (arith, e, p.room);
       long = omega (arith, e, p.long);
-      from = omega (arith, whole, p.from);
-      to = omega (arith, whole, p.to);
     }
 
 pub returns : goal.returns

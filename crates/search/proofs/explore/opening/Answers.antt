@@ -1,6 +1,0 @@
-use Rattle.std.proofs.Common.{rules}
-use Rattle.walks.proofs.Order.{zeros-plus}
-use Rattle.search.proofs.explore.opening.Goals as goal
-
-pub returns-clause-value : goal.returns-clause-value
-returns-clause-value g c = search (rules, zeros-plus, g.met.C.CostKind.measured)
