@@ -15,15 +15,15 @@ use Rattle.walks.proofs.Options.{some_only}
 use Rattle.walks.proofs.Relax.{relax_better, relax_full, relax_keep, relax_kept, relax_new, relax_settled}
 use Rattle.search.specs.Grounds.{drawn_in, net_of, settings_of}
 use Rattle.search.specs.Labels.{Each, Fine, label_in, plain}
-use Rattle.search.specs.Queues.{Filled, in_queue, put_in}
+use Rattle.search.specs.Queues.{Filled, in_queue}
 use Rattle.search.specs.Stages.{Offered, asked_of}
-use Rattle.search.specs.declared.asking.Question.{Question}
+use Rattle.search.specs.declared.question.Question.{Question}
 use Rattle.search.specs.declared.frontier.Frontier.{Frontier}
 use Rattle.search.specs.declared.label.Label.{Label}
 use Rattle.search.specs.declared.queue.QueueSlot.{QueueSlot}
 use Rattle.search.proofs.Eaches.{each_set}
 use Rattle.search.proofs.Marks.{label_held, label_is, label_read, label_wrote, meaning_none, meaning_some}
-use Rattle.search.proofs.Slots.{brought_in, filled_more, has_room}
+use Rattle.search.proofs.Slots.{brought_in, filled_more, has_room, put_in}
 
 -- what the type of a search says of its lists
 pub record Working {R C : Type 0} (g : Question R C) (ls : List (Label C)) (slots : List QueueSlot) (len : ℕ) : Type 0 where

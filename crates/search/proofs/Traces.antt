@@ -12,7 +12,7 @@ use Rattle.plan.specs.Plans.{edge_at, plan_of}
 use Rattle.search.specs.Grounds.{drawn_in, net_of}
 use Rattle.search.specs.Labels.{label_in, plain}
 use Rattle.search.specs.Traces.{Traced}
-use Rattle.search.specs.declared.asking.Question.{Question}
+use Rattle.search.specs.declared.question.Question.{Question}
 use Rattle.search.specs.declared.label.Label.{Label}
 use Rattle.search.proofs.Adds.{any_long}
 use Rattle.search.proofs.Marks.{label_is}

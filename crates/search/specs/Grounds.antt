@@ -15,7 +15,7 @@ use Rattle.rules.specs.declared.rule.TurnRule.{Ghosts as Rule}
 use Rattle.plan.specs.Plans.{Plan, plan_of, edge_at, steps}
 use Rattle.plan.specs.Studies.{shut}
 use Rattle.walks.specs.Networks.{Network}
-use Rattle.search.specs.declared.asking.Question.{Question}
+use Rattle.search.specs.declared.question.Question.{Question}
 
 abbrev pub network : Plan → List ℕ → (ℕ → ℕ → ℕ) → ℕ → (ℕ → ℕ → List ℕ) → Network
 network p sheet charge places amount =

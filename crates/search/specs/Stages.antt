@@ -24,7 +24,7 @@ use Rattle.walks.specs.Loop.{Inv, Relaxing}
 use Rattle.search.specs.Grounds.{net_of, settings_of}
 use Rattle.search.specs.Labels.{plain, label_in, Fine, Each}
 use Rattle.search.specs.Queues.{in_queue}
-use Rattle.search.specs.declared.asking.Question.{Question}
+use Rattle.search.specs.declared.question.Question.{Question}
 use Rattle.search.specs.declared.frontier.Frontier.{Frontier}
 use Rattle.search.specs.declared.label.Label.{Label}
 

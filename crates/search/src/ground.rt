@@ -2,7 +2,7 @@
 ghost use Rattle.std.specs.Prelude.{◌<◌, ◌≤◌, length};
 ghost use Rattle.search.specs.Grounds.{drawn_in};
 
-use crate::asking::Question;
+use crate::question::Question;
 
 /// A question between two drawn edges, with a byte of the sheet for each drawn edge.
 #[derive(Drop)]

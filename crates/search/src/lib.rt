@@ -16,7 +16,8 @@ mod queue;
 mod trace;
 
 pub use answer::Answer;
+pub use asking::ask;
 pub use fault::QuestionFault;
 pub use label::Label;
-pub use question::ask;
+pub use question::Question;
 pub use queue::QueueSlot;
