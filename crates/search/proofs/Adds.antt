@@ -1,21 +1,11 @@
--- Why an addition is refused, and what is known of the numbers that a search adds.
-use Rattle.std.proofs.Common.{◌≡◌, ℕ, ◌<◌, ◌≤◌, false, not, eqb, ltb, leb, ◌⊎◌, length, sym, ap, ◌∙◌, inl, inr, arith}
-use Rattle.std.proofs.lemmas.Bool.{cases_lt, and_parts, leb-true, ltb-true, false≢true}
-use Rattle.cost.specs.Adding.{addable}
-use Rattle.cost.specs.AddLaws.{addable_from}
+-- What is known of the lengths that a search adds.
+use Rattle.std.proofs.Common.{ℕ, ◌<◌, ◌≤◌, not, eqb, ltb, leb, ◌⊎◌, length, ap, inl, inr, arith}
+use Rattle.std.proofs.lemmas.Bool.{cases_lt, and_parts, leb-true, ltb-true}
 use Rattle.plan.specs.Plans.{Plan, Sound, edge_at, no_row, plan_of}
 use Rattle.plan.specs.declared.drawing.Drawing.{Drawing}
 use Rattle.plan.specs.declared.row.EdgeRow.{EdgeRow}
 use Rattle.plan.proofs.Drawn.{sound_of}
 use Rattle.std.proofs.lemmas.List.{get_or_past}
-
--- a cost that takes no more, at a charge and a length that it takes, has all its additions
-pub spent : (charge long n : ℕ) → false ≡ addable charge long n → charge ≤ 1000 → long ≤ 100000 → 1024 ≤ n
-spent charge long n no_more small short = go (cases_lt n 1024)
-  where
-    go : (n < 1024) ⊎ (1024 ≤ n) → 1024 ≤ n
-    go (inl l) = absurd (false≢true (no_more ∙ sym (addable_from charge long n small short l)))
-    go (inr l) = l
 
 pub record Long (p : Plan) (e : ℕ) : Type 0 where
   pub some : 1 ≤ (edge_at p e).length

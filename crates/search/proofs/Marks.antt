@@ -1,5 +1,5 @@
 -- Reading and writing labels, by what they mean.
-use Rattle.std.proofs.Common.{◌≡◌, ℕ, ◌+◌, ◌<◌, ◌≤◌, cond, ◌⊎◌, List, map, length, get_or, set, Some, None, sym, ap, ◌∙◌, subst, subst₂, inl, inr, arith}
+use Rattle.std.proofs.Common.{◌≡◌, ℕ, zero, suc, ◌+◌, ◌<◌, ◌≤◌, cond, ◌⊎◌, List, [], ◌∷◌, map, length, get_or, set, Some, None, sym, refl, ap, ◌∙◌, subst, subst₂, inl, inr, arith}
 use Rattle.std.proofs.lemmas.List.{get_or-map, map-set, get_or-set_same, get_or-set_other, get_or_past, get_or_read, length-map}
 use Rattle.std.proofs.lemmas.Bool.{cases_eq, eq-eqb, ne_eqb}
 use Rattle.cost.specs.declared.kind.CostKind.{Ghosts as Kind}
@@ -40,6 +40,12 @@ module _ {C : Type 0} (K : Kind C) where
 
   pub label_is : (ls : List (Label C)) (e : ℕ) (x : Label C) (m : Mark) → e < length ls → x ≡ get_or ls e x → label_in K ls e ≡ Some m → m ≡ plain K x
   label_is ls e x m l h q = meaning_is x m (sym (label_read ls e x l h) ∙ q)
+
+  -- where a label is read, one is held
+  pub label_held : (ls : List (Label C)) (e : ℕ) (m : Mark) → label_in K ls e ≡ Some m → (x : Label C) × (x ≡ get_or ls e x)
+  label_held [] e m h = absurd (none_not_some refl h)
+  label_held (x ∷ ls) zero m h = (x, refl)
+  label_held (x ∷ ls) (suc e) m h = label_held ls e m h
 
   pub label_past : (ls : List (Label C)) (e : ℕ) → length ls ≤ e → label_in K ls e ≡ None
   label_past ls e h = let n = length-map ls (meaning K) in get_or_past (map (meaning K) ls) e None (omega (arith, n))

@@ -1,27 +1,25 @@
 -- The lists of a search at its start, and what holds at its end.
-use Rattle.std.proofs.Common.{◌≡◌, ℕ, zero, suc, ◌+◌, ◌-◌, ◌<◌, ◌≤◌, Bool, true, cond, not, eqb, List, [], ◌∷◌, length, get_or, set, Some, None, sym, refl, ap, ◌∙◌, arith}
+use Rattle.std.proofs.Common.{◌≡◌, ℕ, zero, suc, ◌+◌, ◌-◌, ◌<◌, ◌≤◌, cond, not, eqb, List, [], ◌∷◌, length, get_or, set, Some, None, sym, refl, ap, ◌∙◌, subst, arith}
 use Rattle.std.proofs.lemmas.Bool.{eq-eqb, ne_eqb, false≢true}
-use Rattle.cost.specs.Adding.{addable}
-use Rattle.cost.specs.Rows.{plus, zeros}
-use Rattle.cost.specs.AddLaws.{addable_from}
 use Rattle.cost.specs.declared.kind.CostKind.{Ghosts as Kind}
 use Rattle.rules.specs.declared.rule.TurnRule.{Ghosts as Rule}
-use Rattle.plan.specs.Plans.{edge_at, plan_of}
-use Rattle.walks.specs.Labels.{Certified, first_label, none}
+use Rattle.walks.specs.Labels.{Certified, first_label}
 use Rattle.walks.specs.Loop.{Inv, settled, tally, with_label}
 use Rattle.walks.proofs.Back.{label_from_parts}
-use Rattle.walks.proofs.Loop.{certified_same, inv_finish, inv_same, inv_start, settled_number, shut_certified}
-use Rattle.walks.proofs.Order.{zeros-plus}
+use Rattle.walks.proofs.Loop.{certified_same, inv_finish, inv_same, inv_start, label_edges, settled_number, shut_certified}
 use Rattle.walks.proofs.Tally.{tally_none}
-use Rattle.search.specs.Grounds.{net_of, settings_of}
-use Rattle.search.specs.Labels.{Blank, Each, Fine, label_in, plain}
-use Rattle.search.specs.Queues.{Filled, in_queue, put_in}
-use Rattle.search.specs.Stages.{Opens, Working}
-use Rattle.search.specs.declared.ground.Ground.{Ground}
+use Rattle.search.specs.Grounds.{drawn_in, net_of, settings_of}
+use Rattle.search.specs.Labels.{Blank, Each, Fine, Short, label_in, plain}
+use Rattle.search.specs.Queues.{Filled, in_queue}
+use Rattle.search.specs.Stages.{Opens, Searching, Stays, asked_of, labelling, waiting}
+use Rattle.search.specs.declared.question.Question.{Question}
+use Rattle.search.specs.declared.frontier.Frontier.{Frontier}
 use Rattle.search.specs.declared.label.Label.{Label}
 use Rattle.search.specs.declared.queue.QueueSlot.{QueueSlot}
+use Rattle.search.proofs.Eaches.{each_set}
 use Rattle.search.proofs.Marks.{label_wrote, meaning_none}
-use Rattle.search.proofs.Steps.{Measured, entered_queue, working_entered}
+use Rattle.search.proofs.Slots.{put_in}
+use Rattle.search.proofs.Steps.{Measured, Working, entered_queue, working_entered}
 
 module _ {C : Type 0} (K : Kind C) (s : K.Settings) where
   blank_fine : (x : Label C) → Blank K s x → Fine K s x
@@ -36,83 +34,71 @@ module _ {C : Type 0} (K : Kind C) (s : K.Settings) where
   pub blank_each : (ls : List (Label C)) → Each (Blank K s) ls → Each (Fine K s) ls
   blank_each ls b k d h = blank_fine (get_or ls k d) (b k d h)
 
-module _ {R C : Type 0} (T : Rule R) (K : Kind C) (measured : Measured K) (g : Ground R C) (ls : List (Label C)) (slots : List QueueSlot) (a : ℕ) (size : length ls ≡ length (plan_of g.drawing.now).edges) (covered : length (plan_of g.drawing.now).edges ≤ length g.sheet.now) (room : length (plan_of g.drawing.now).edges ≤ length slots) (drawn : a < length ls) (blank : Each (Blank K (settings_of K g)) ls) where
+module _ {R C : Type 0} (T : Rule R) (K : Kind C) (measured : Measured K) (g : Question R C) (ls : List (Label C)) (slots : List QueueSlot) (size : length ls ≡ drawn_in g) (room : drawn_in g ≤ length slots) (drawn : g.first < length ls) (blank : Each (Blank K (settings_of K g)) ls) where
   -- a shut first edge
-  pub certified_shut : (get_or g.sheet.now a 0 ≡ 0 → ⊥) → Certified (net_of T K g) a (label_in K ls)
+  pub certified_shut : (get_or g.sheet.now g.first 0 ≡ 0 → ⊥) → Certified (net_of T K g) g.first (label_in K ls)
   certified_shut closed =
       certified_same (λ e. sym (blank_none K (settings_of K g) ls blank e))
-      (shut_certified (net_of T K g) a (λ u. false≢true (sym (ap (λ b. not (not b)) (ne_eqb (get_or g.sheet.now a 0) 0 closed)) ∙ u.1)))
+      (shut_certified (net_of T K g) g.first (λ u. false≢true (sym (ap (λ b. not (not b)) (ne_eqb (get_or g.sheet.now g.first 0) 0 closed)) ∙ u.1)))
 
-  filled_none : Filled slots 0 (length (plan_of g.drawing.now).edges)
+  filled_none : Filled slots 0 (drawn_in g)
   filled_none =
       record {
         room = room;
         once = λ e. omega arith;
         drawn = λ k h. absurd (omega arith);
-        counted = tally_none (in_queue slots 0) (length (plan_of g.drawing.now).edges) (λ k _. refl);
+        counted = tally_none (in_queue slots 0) (drawn_in g) (λ k _. refl);
       }
 
-  working_none : Working K g ls slots 0
+  working_none : Working g ls slots 0
   working_none =
       record {
         size = size;
-        covered = covered;
-        fine = blank_each K (settings_of K g) ls blank;
         filled = filled_none;
         waiting = λ e d h q. absurd (false≢true q);
       }
 
-  module _ (x : Label C) (fine : Fine K (settings_of K g) x) (opens : Opens K g a x) where
+  module _ (x : Label C) (opens : Opens K g x) where
     grown : 0 < x.edges
     grown = omega (arith, opens.edges)
 
-    pub working_start : Working K g (set ls a x) (put_in slots 0 a) (0 + 1)
-    working_start = working_entered T K measured g ls slots 0 working_none x a a drawn x fine grown refl
+    pub working_start : Working g (set ls g.first x) (put_in slots 0 g.first) (0 + 1)
+    working_start = working_entered T K measured g ls slots 0 working_none x g.first g.first drawn x grown refl
 
-    pub inv_begun : get_or g.sheet.now a 0 ≡ 0 → Inv (net_of T K g) a (label_in K (set ls a x)) (in_queue (put_in slots 0 a) (0 + 1)) 0
+    pub inv_begun : get_or g.sheet.now g.first 0 ≡ 0 → Inv (net_of T K g) g.first (label_in K (set ls g.first x)) (in_queue (put_in slots 0 g.first) (0 + 1)) 0
     inv_begun free =
-        inv_same labels (entered_queue T K measured g ls slots 0 working_none x a a drawn x fine grown refl)
-        (inv_start (net_of T K g) a (measured (settings_of K g)) (omega (arith, size), ap (λ b. not (not b)) (eq-eqb (get_or g.sheet.now a 0) 0 free)))
+        inv_same labels (entered_queue T K measured g ls slots 0 working_none x g.first g.first drawn x grown refl)
+        (inv_start (net_of T K g) g.first (measured (settings_of K g)) (omega (arith, size), ap (λ b. not (not b)) (eq-eqb (get_or g.sheet.now g.first 0) 0 free)))
       where
-        same : plain K x ≡ first_label (net_of T K g) a
-        same = label_from_parts (plain K x) (first_label (net_of T K g) a) opens.row opens.edges opens.previous
+        same : plain K x ≡ first_label (net_of T K g) g.first
+        same = label_from_parts (plain K x) (first_label (net_of T K g) g.first) opens.row opens.edges opens.previous
 
-        labels : (e : ℕ) → with_label (λ _. None) a (first_label (net_of T K g) a) e ≡ label_in K (set ls a x) e
+        labels : (e : ℕ) → with_label (λ _. None) g.first (first_label (net_of T K g) g.first) e ≡ label_in K (set ls g.first x) e
         labels e =
-            ap (λ m. with_label (λ _. None) a m e) (sym same)
-            ∙ ap (λ o. cond (eqb e a) (Some (plain K x)) o) (sym (blank_none K (settings_of K g) ls blank e))
-            ∙ label_wrote K ls a x drawn grown e
+            ap (λ m. with_label (λ _. None) g.first m e) (sym same)
+            ∙ ap (λ o. cond (eqb e g.first) (Some (plain K x)) o) (sym (blank_none K (settings_of K g) ls blank e))
+            ∙ label_wrote K ls g.first x drawn grown e
+
+pub start_fine : {R C : Type 0} (K : Kind C) (g : Question R C) (ls : List (Label C)) → Each (Blank K (settings_of K g)) ls → (x : Label C) → Fine K (settings_of K g) x → Each (Fine K (settings_of K g)) (set ls g.first x)
+start_fine K g ls blank x fine = each_set (Fine K (settings_of K g)) ls g.first x (blank_each K (settings_of K g) ls blank) fine
 
 -- the edges that are not settled yet
-abbrev pub unsettled : {R C : Type 0} → Kind C → Ground R C → List (Label C) → List QueueSlot → ℕ → ℕ
-unsettled K g ls slots len =
-    length (plan_of g.drawing.now).edges
-    - tally (settled (label_in K ls) (in_queue slots len)) (length (plan_of g.drawing.now).edges)
+abbrev pub unsettled : {R C : Type 0} → Kind C → Frontier R C → ℕ
+unsettled K s = drawn_in (asked_of s) - tally (settled (labelling K s) (waiting s)) (drawn_in (asked_of s))
 
-module _ {R C : Type 0} (T : Rule R) (K : Kind C) (g : Ground R C) (ls : List (Label C)) (slots : List QueueSlot) (len a n : ℕ) (i : Inv (net_of T K g) a (label_in K ls) (in_queue slots len) n) where
-  -- a turn settles one edge more
-  pub fewer_left : (ls' : List (Label C)) (slots' : List QueueSlot) (len' : ℕ) → Inv (net_of T K g) a (label_in K ls') (in_queue slots' len') (n + 1) → unsettled K g ls' slots' len' < unsettled K g ls slots len
-  fewer_left ls' slots' len' j = omega (arith, i.running.counted, j.running.counted, settled_number j.running)
+-- a turn settles one edge more
+pub fewer_left : {R C : Type 0} (T : Rule R) (K : Kind C) (s s' : Frontier R C) (a n : ℕ) → Stays s s' → Searching T K s a n → Searching T K s' a (n + 1) → unsettled K s' < unsettled K s
+fewer_left T K s s' a n stays i j =
+    omega (arith, ap (λ q. drawn_in q.now.question.now) stays.ground, i.inv.running.counted, j.inv.running.counted, settled_number j.inv.running)
 
-  -- an empty queue ends the search
-  pub certified_done : len ≤ 0 → Certified (net_of T K g) a (label_in K ls)
-  certified_done none_left =
-      let e : len ≡ 0 = omega arith in
-      inv_finish i (λ f. ap (λ m. in_queue slots m f) e)
+-- an empty queue ends the search
+pub record Done {R C : Type 0} (T : Rule R) (K : Kind C) (q : Question R C) (ls : List (Label C)) (a : ℕ) : Type 0 where
+  pub fine : Each (Fine K (settings_of K q)) ls
+  pub short : Short K ls (drawn_in q)
+  pub certified : Certified (net_of T K q) a (label_in K ls)
 
--- the walk of one edge: the empty cost with one addition
-module _ {R C : Type 0} (K : Kind C) (measured : Measured K) (g : Ground R C) (a : ℕ) (empty cost : C) (long : ℕ) (reads : long ≡ (edge_at (plan_of g.drawing.now) a).length) (most : long ≤ 100000) (kept : K.settings empty ≡ settings_of K g) (unadded : K.additions empty ≡ 0) (nothing : K.row empty ≡ zeros K.places) where
-  pub opening_added : (r : Bool) → r ≡ addable 0 long (K.additions empty) → r ≡ true
-  opening_added r e = e ∙ ap (addable 0 long) unadded ∙ sym (addable_from 0 long 0 (omega arith) most (omega arith))
-
-  pub opening_fine : K.settings cost ≡ K.settings empty → K.additions cost ≡ K.additions empty + 1 → Fine K (settings_of K g) (record { cost = cost; edges = 1; previous = none })
-  opening_fine same count = record { kept = same ∙ kept; added = omega (arith, count, unadded); blank = λ e. absurd (omega (arith, e)) }
-
-  pub opening_opens : K.row cost ≡ plus (K.row empty) (K.amount (K.settings empty) 0 long) → Opens K g a (record { cost = cost; edges = 1; previous = none })
-  opening_opens sum =
-      record {
-        row = sum ∙ ap (λ z. plus z (K.amount (K.settings empty) 0 long)) nothing ∙ zeros-plus K.places (K.amount (K.settings empty) 0 long) (measured (K.settings empty) 0 long)
-            ∙ ap (λ s. K.amount s 0 long) kept ∙ ap (K.amount (settings_of K g) 0) reads;
-        edges = refl;
-        previous = refl;
-      }
+pub done : {R C : Type 0} (T : Rule R) (K : Kind C) (s s' : Frontier R C) (a n : ℕ) → Stays s s' → Searching T K s' a n → s'.len ≤ 0 → Done T K (asked_of s) s'.labels.now a
+done T K s s' a n stays i none_left =
+    let e : s'.len ≡ 0 = omega arith in
+    subst (λ q. Done T K q s'.labels.now a) (ap (λ r. r.now.question.now) stays.ground)
+    (record { fine = i.fine; short = label_edges i.inv.running; certified = inv_finish i.inv (λ f. ap (λ m. in_queue s'.queue.now m f) e) })

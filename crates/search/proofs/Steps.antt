@@ -1,6 +1,6 @@
 -- Relaxing one step keeps the lists of a search in order, and what is relaxed.
 use Rattle.std.proofs.Common.{◌≡◌, ℕ, ◌+◌, ◌<◌, ◌≤◌, true, false, eqb, ltb, ◌⊎◌, List, length, get_or, set, Some, sym, refl, ap, ◌∙◌, subst, inl, inr, arith}
-use Rattle.std.proofs.lemmas.List.{get_or_read, get_or-set_same, get_or-set_other, length-set}
+use Rattle.std.proofs.lemmas.List.{get_or_default, get_or-set_same, get_or-set_other, length-set}
 use Rattle.std.proofs.lemmas.Bool.{and_parts, cases_Bool, cases_eq, eqb-true}
 use Rattle.cost.specs.declared.kind.CostKind.{Ghosts as Kind}
 use Rattle.rules.specs.declared.rule.TurnRule.{Ghosts as Rule}
@@ -13,16 +13,38 @@ use Rattle.walks.proofs.Keys.{label_less_asym, less_at_most}
 use Rattle.walks.proofs.Loop.{flag_other, relaxing_same}
 use Rattle.walks.proofs.Options.{some_only}
 use Rattle.walks.proofs.Relax.{relax_better, relax_full, relax_keep, relax_kept, relax_new, relax_settled}
-use Rattle.search.specs.Grounds.{net_of, settings_of}
-use Rattle.search.specs.Labels.{plain, label_in, Fine}
-use Rattle.search.specs.Queues.{in_queue, put_in}
-use Rattle.search.specs.Stages.{Keeps, Offered, Working}
-use Rattle.search.specs.declared.ground.Ground.{Ground}
+use Rattle.search.specs.Grounds.{drawn_in, net_of, settings_of}
+use Rattle.search.specs.Labels.{Each, Fine, label_in, plain}
+use Rattle.search.specs.Queues.{Filled, in_queue}
+use Rattle.search.specs.Stages.{Offered, asked_of}
+use Rattle.search.specs.declared.question.Question.{Question}
+use Rattle.search.specs.declared.frontier.Frontier.{Frontier}
 use Rattle.search.specs.declared.label.Label.{Label}
 use Rattle.search.specs.declared.queue.QueueSlot.{QueueSlot}
 use Rattle.search.proofs.Eaches.{each_set}
-use Rattle.search.proofs.Marks.{label_read, label_wrote, meaning_none, meaning_some}
-use Rattle.search.proofs.Slots.{brought_in, filled_more, has_room}
+use Rattle.search.proofs.Marks.{label_held, label_is, label_read, label_wrote, meaning_none, meaning_some}
+use Rattle.search.proofs.Slots.{brought_in, filled_more, has_room, put_in}
+
+-- what the type of a search says of its lists
+pub record Working {R C : Type 0} (g : Question R C) (ls : List (Label C)) (slots : List QueueSlot) (len : ℕ) : Type 0 where
+  pub size : length ls ≡ drawn_in g
+  pub filled : Filled slots len (drawn_in g)
+  pub waiting : (e : ℕ) (d : Label C) → e < length ls → in_queue slots len e ≡ true → 0 < (get_or ls e d).edges
+
+pub working_of : {R C : Type 0} (s : Frontier R C) → Working (asked_of s) s.labels.now s.queue.now s.len
+working_of s = record { size = s.size; filled = s.filled; waiting = s.waiting }
+
+-- where the steps of e, whose label is x, are relaxed up to the edge k, they are so up to the edge j afterwards
+abbrev pub Relaxes : {R C : Type 0} → Rule R → Kind C → Question R C → List (Label C) → List QueueSlot → ℕ → List (Label C) → List QueueSlot → ℕ → Mark → ℕ → ℕ → ℕ → Type 0
+Relaxes T K g ls slots len ls' slots' len' x e k j =
+    (a n : ℕ) → Relaxing (net_of T K g) a (label_in K ls) (in_queue slots len) n e x k
+    → Relaxing (net_of T K g) a (label_in K ls') (in_queue slots' len') n e x j
+
+-- the same for the label that is read, with every label Fine
+abbrev pub Kept : {R C : Type 0} → Rule R → Kind C → Question R C → List (Label C) → List QueueSlot → ℕ → List (Label C) → List QueueSlot → ℕ → ℕ → ℕ → ℕ → Type 0
+Kept T K g ls slots len ls' slots' len' e k j =
+    (a n : ℕ) (x : Mark) → Each (Fine K (settings_of K g)) ls → Relaxing (net_of T K g) a (label_in K ls) (in_queue slots len) n e x k
+    → Each (Fine K (settings_of K g)) ls' × Relaxing (net_of T K g) a (label_in K ls') (in_queue slots' len') n e x j
 
 abbrev pub Measured : {C : Type 0} → Kind C → Type 0
 Measured K = (s : K.Settings) (charge long : ℕ) → length (K.amount s charge long) ≡ K.places
@@ -35,56 +57,52 @@ step_starts p e f h =
     let c = and_parts (eqb (edge_at p f).start (edge_at p e).end) _ b.1 in
     eqb-true (edge_at p f).start (edge_at p e).end c.0
 
-module _ {R C : Type 0} (T : Rule R) (K : Kind C) (measured : Measured K) (g : Ground R C) (ls : List (Label C)) (slots : List QueueSlot) (len : ℕ) (w : Working K g ls slots len) (x : Label C) (from to : ℕ) (drawn : to < length ls) where
+module _ {R C : Type 0} (T : Rule R) (K : Kind C) (measured : Measured K) (g : Question R C) (ls : List (Label C)) (slots : List QueueSlot) (len : ℕ) (w : Working g ls slots len) (x : Label C) (from to : ℕ) (drawn : to < length ls) where
   even : Even (net_of T K g)
   even = measured (settings_of K g)
 
   -- nothing is offered: no step leads to an open edge, or the walk can not grow
-  pub keeps_none : (Usable (net_of T K g) to → Step (net_of T K g) from to → 1024 ≤ x.edges) → Keeps T K g ls slots len ls slots len x from to (to + 1)
-  keeps_none full a n r =
+  pub relaxes_none : (Usable (net_of T K g) to → Step (net_of T K g) from to → 1024 ≤ x.edges) → Relaxes T K g ls slots len ls slots len (plain K x) from to (to + 1)
+  relaxes_none full a n r =
       relax_keep r (λ u s.
       let few = (sound_of g.drawing.now).few in
       let all = relax_full even r (omega (arith, few, full u s)) (to + 1) in
       all.closed from to (plain K x) r.labelled r.taken (λ _. omega arith) u s)
 
-  drawn_here : to < length (plan_of g.drawing.now).edges
+  drawn_here : to < drawn_in g
   drawn_here = omega (arith, w.size)
 
   -- an edge gets its first label and enters the queue
-  module _ (new : Label C) (fine : Fine K (settings_of K g) new) (grown : 0 < new.edges) where
+  module _ (new : Label C) (grown : 0 < new.edges) where
     written : (e : ℕ) (d : Label C) → e ≡ to → get_or (set ls to new) e d ≡ new
     written e d q = ap (λ j. get_or (set ls to new) j d) q ∙ get_or-set_same ls to new d drawn
 
     module _ (apart : in_queue slots len to ≡ false) where
       pub room_entered : len < length slots
-      room_entered = omega (arith, has_room slots len (length (plan_of g.drawing.now).edges) to w.filled apart drawn_here, w.filled.room)
+      room_entered = omega (arith, has_room slots len (drawn_in g) to w.filled apart drawn_here, w.filled.room)
 
-      pub working_entered : Working K g (set ls to new) (put_in slots len to) (len + 1)
+      pub working_entered : Working g (set ls to new) (put_in slots len to) (len + 1)
       working_entered =
           record {
             size = length-set ls to new ∙ w.size;
-            covered = w.covered;
-            fine = each_set (Fine K (settings_of K g)) ls to new w.fine fine;
-            filled = filled_more slots len (length (plan_of g.drawing.now).edges) to w.filled apart drawn_here;
+            filled = filled_more slots len (drawn_in g) to w.filled apart drawn_here;
             waiting = λ e d h q. go e d (omega (arith, length-set ls to new)) q (cases_eq e to);
           }
         where
           go : (e : ℕ) (d : Label C) → e < length ls → in_queue (put_in slots len to) (len + 1) e ≡ true → (e ≡ to) ⊎ (e ≡ to → ⊥) → 0 < (get_or (set ls to new) e d).edges
           go e d h q (inl p) = subst (λ l. 0 < l.edges) (sym (written e d p)) grown
           go e d h q (inr p) =
-              let was = sym (flag_other (in_queue slots len) to true e p) ∙ brought_in slots len (length (plan_of g.drawing.now).edges) to w.filled apart drawn_here e ∙ q in
+              let was = sym (flag_other (in_queue slots len) to true e p) ∙ brought_in slots len (drawn_in g) to w.filled apart drawn_here e ∙ q in
               subst (λ l. 0 < l.edges) (sym (get_or-set_other ls to e new d p)) (w.waiting e d h was)
 
       pub entered_queue : (e : ℕ) → with_flag (in_queue slots len) to true e ≡ in_queue (put_in slots len to) (len + 1) e
-      entered_queue = brought_in slots len (length (plan_of g.drawing.now).edges) to w.filled apart drawn_here
+      entered_queue = brought_in slots len (drawn_in g) to w.filled apart drawn_here
 
     -- an edge gets a better label
-    pub working_rewritten : Working K g (set ls to new) slots len
+    pub working_rewritten : Working g (set ls to new) slots len
     working_rewritten =
         record {
           size = length-set ls to new ∙ w.size;
-          covered = w.covered;
-          fine = each_set (Fine K (settings_of K g)) ls to new w.fine fine;
           filled = w.filled;
           waiting = λ e d h q. go e d (omega (arith, length-set ls to new)) q (cases_eq e to);
         }
@@ -93,47 +111,38 @@ module _ {R C : Type 0} (T : Rule R) (K : Kind C) (measured : Measured K) (g : G
         go e d h q (inl p) = subst (λ l. 0 < l.edges) (sym (written e d p)) grown
         go e d h q (inr p) = subst (λ l. 0 < l.edges) (sym (get_or-set_other ls to e new d p)) (w.waiting e d h q)
 
-  module _ (old new : Label C) (reads : old ≡ get_or ls to old) (offered : Offered T K g x from to new) where
-    read_at : (d : Label C) → get_or ls to d ≡ old
-    read_at d = sym (get_or_read ls to old drawn reads d)
-
-    grown : 0 < new.edges
-    grown = let e = ap (λ (m : Mark). m.edges) offered.value in omega (arith, e)
-
+  module _ (old new : Label C) (held : old ≡ get_or ls to old) (grown : 0 < new.edges) where
     -- an edge that had no walk
     module _ (unlabelled : old.edges ≡ 0) where
       apart : in_queue slots len to ≡ false
       apart = go (cases_Bool (in_queue slots len to))
         where
           go : (in_queue slots len to ≡ true) ⊎ (in_queue slots len to ≡ false) → in_queue slots len to ≡ false
-          go (inl q) = absurd (let h = w.waiting to old drawn q in omega (arith, h, ap (λ (l : Label C). l.edges) (read_at old), unlabelled))
+          go (inl q) = absurd (let h = w.waiting to old drawn q in omega (arith, h, ap (λ (l : Label C). l.edges) held, unlabelled))
           go (inr q) = q
 
       pub room_new : len < length slots
-      room_new = room_entered new offered.fine grown apart
+      room_new = room_entered new grown apart
 
-      pub working_new : Working K g (set ls to new) (put_in slots len to) (len + 1)
-      working_new = working_entered new offered.fine grown apart
+      pub working_new : Working g (set ls to new) (put_in slots len to) (len + 1)
+      working_new = working_entered new grown apart
 
-      pub keeps_new : Keeps T K g ls slots len (set ls to new) (put_in slots len to) (len + 1) x from to (to + 1)
-      keeps_new a n r =
-          relaxing_same (label_wrote K ls to new drawn grown) (entered_queue new offered.fine grown apart)
+      pub relaxes_new : Offered T K g x from to new → Relaxes T K g ls slots len (set ls to new) (put_in slots len to) (len + 1) (plain K x) from to (to + 1)
+      relaxes_new offered a n r =
+          relaxing_same (label_wrote K ls to new drawn grown) (entered_queue new grown apart)
           (subst (λ m. Relaxing (net_of T K g) a (with_label (label_in K ls) to m) (with_flag (in_queue slots len) to true) n from (plain K x) (to + 1)) (sym offered.value)
-          (relax_new even r offered.usable offered.step (label_read K ls to old drawn reads ∙ meaning_none K old unlabelled)))
+          (relax_new even r offered.usable offered.step (label_read K ls to old drawn held ∙ meaning_none K old unlabelled)))
 
     -- an edge that has a walk
     module _ (labelled : 0 < old.edges) where
       label_old : label_in K ls to ≡ Some (plain K old)
-      label_old = label_read K ls to old drawn reads ∙ meaning_some K old labelled
+      label_old = label_read K ls to old drawn held ∙ meaning_some K old labelled
 
-      pub keeps_old : AtMost (plain K old) (plain K new) → Keeps T K g ls slots len ls slots len x from to (to + 1)
-      keeps_old h a n r = relax_kept r (plain K old) label_old (subst (AtMost (plain K old)) offered.value h)
+      pub relaxes_old : Offered T K g x from to new → AtMost (plain K old) (plain K new) → Relaxes T K g ls slots len ls slots len (plain K x) from to (to + 1)
+      relaxes_old offered h a n r = relax_kept r (plain K old) label_old (subst (AtMost (plain K old)) offered.value h)
 
-      pub working_better : Working K g (set ls to new) slots len
-      working_better = working_rewritten new offered.fine grown
-
-      pub keeps_better : LabelLess (plain K new) (plain K old) → Keeps T K g ls slots len (set ls to new) slots len x from to (to + 1)
-      keeps_better h a n r =
+      pub relaxes_better : Offered T K g x from to new → LabelLess (plain K new) (plain K old) → Relaxes T K g ls slots len (set ls to new) slots len (plain K x) from to (to + 1)
+      relaxes_better offered h a n r =
           relaxing_same (label_wrote K ls to new drawn grown) (λ _. refl)
           (subst (λ m. Relaxing (net_of T K g) a (with_label (label_in K ls) to m) (in_queue slots len) n from (plain K x) (to + 1)) (sym offered.value)
           (relax_better even r offered.usable offered.step (plain K old) label_old queued less))
@@ -153,6 +162,55 @@ module _ {R C : Type 0} (T : Rule R) (K : Kind C) (measured : Measured K) (g : G
                   let z = less_at_most _ (plain K old) _ less b in
                   absurd (label_less_asym _ _ z z)
 
-  -- an edge that does not start where the other ends
-  pub keeps_apart : ((edge_at (plan_of g.drawing.now) to).start ≡ (edge_at (plan_of g.drawing.now) from).end → ⊥) → Keeps T K g ls slots len ls slots len x from to (to + 1)
-  keeps_apart apart = keeps_none (λ u s. absurd (apart (step_starts (plan_of g.drawing.now) from to s)))
+-- the same, where the labels are read from the list
+module _ {R C : Type 0} (T : Rule R) (K : Kind C) (measured : Measured K) (g : Question R C) (ls : List (Label C)) (slots : List QueueSlot) (len : ℕ) (w : Working g ls slots len) (from to : ℕ) (here : from < length ls) (drawn : to < length ls) (p : Label C) where
+  abbrev x : Label C
+  x = get_or ls from p
+
+  fine_read : Each (Fine K (settings_of K g)) ls → Fine K (settings_of K g) x
+  fine_read fine = fine from p here
+
+  kept_by : (ls' : List (Label C)) (slots' : List QueueSlot) (len' : ℕ)
+      → (Fine K (settings_of K g) x → Relaxes T K g ls slots len ls' slots' len' (plain K x) from to (to + 1))
+      → (Fine K (settings_of K g) x → Each (Fine K (settings_of K g)) ls → Each (Fine K (settings_of K g)) ls')
+      → Kept T K g ls slots len ls' slots' len' from to (to + 1)
+  kept_by ls' slots' len' relaxes still a n m fine r =
+      let f = fine_read fine in
+      let is : m ≡ plain K x = label_is K ls from x m here (get_or_default ls from p x here) r.labelled in
+      (still f fine, subst (λ y. Relaxing (net_of T K g) a (label_in K ls') (in_queue slots' len') n from y (to + 1)) (sym is) (relaxes f a n (subst (λ y. Relaxing (net_of T K g) a (label_in K ls) (in_queue slots len) n from y to) is r)))
+
+  pub kept_none : (Fine K (settings_of K g) x → Usable (net_of T K g) to → Step (net_of T K g) from to → 1024 ≤ x.edges) → Kept T K g ls slots len ls slots len from to (to + 1)
+  kept_none full = kept_by ls slots len (λ f. relaxes_none T K measured g ls slots len w x from to drawn (full f)) (λ _ fine. fine)
+
+  module _ (d new : Label C) (grown : 0 < new.edges) where
+    abbrev old : Label C
+    old = get_or ls to d
+
+    held : old ≡ get_or ls to old
+    held = get_or_default ls to d old drawn
+
+    pub room_read : old.edges ≡ 0 → len < length slots
+    room_read = room_new T K measured g ls slots len w x from to drawn old new held grown
+
+    pub working_read : old.edges ≡ 0 → Working g (set ls to new) (put_in slots len to) (len + 1)
+    working_read = working_new T K measured g ls slots len w x from to drawn old new held grown
+
+    module _ (offered : Fine K (settings_of K g) x → Offered T K g x from to new) where
+      still : Fine K (settings_of K g) x → Each (Fine K (settings_of K g)) ls → Each (Fine K (settings_of K g)) (set ls to new)
+      still f fine = each_set (Fine K (settings_of K g)) ls to new fine (offered f).fine
+
+      pub kept_new : old.edges ≡ 0 → Kept T K g ls slots len (set ls to new) (put_in slots len to) (len + 1) from to (to + 1)
+      kept_new unlabelled = kept_by (set ls to new) (put_in slots len to) (len + 1) (λ f. relaxes_new T K measured g ls slots len w x from to drawn old new held grown unlabelled (offered f)) still
+
+      pub kept_old : (old.edges ≡ 0 → ⊥) → AtMost (plain K old) (plain K new) → Kept T K g ls slots len ls slots len from to (to + 1)
+      kept_old labelled h = kept_by ls slots len (λ f. relaxes_old T K measured g ls slots len w x from to drawn old new held grown (omega (arith, labelled)) (offered f) h) (λ _ fine. fine)
+
+      pub kept_better : (old.edges ≡ 0 → ⊥) → LabelLess (plain K new) (plain K old) → Kept T K g ls slots len (set ls to new) slots len from to (to + 1)
+      kept_better labelled h = kept_by (set ls to new) slots len (λ f. relaxes_better T K measured g ls slots len w x from to drawn old new held grown (omega (arith, labelled)) (offered f) h) still
+
+-- an edge that does not start where the other ends
+pub kept_apart : {R C : Type 0} (T : Rule R) (K : Kind C) (measured : Measured K) (g : Question R C) (ls : List (Label C)) (slots : List QueueSlot) (len : ℕ) → Working g ls slots len → (from to : ℕ) → from < length ls → to < length ls
+    → ((edge_at (plan_of g.drawing.now) to).start ≡ (edge_at (plan_of g.drawing.now) from).end → ⊥) → Kept T K g ls slots len ls slots len from to (to + 1)
+kept_apart T K measured g ls slots len w from to here drawn apart a n m fine r =
+    let h = label_held K ls from m r.labelled in
+    kept_none T K measured g ls slots len w from to here drawn h.0 (λ _ _ s. absurd (apart (step_starts (plan_of g.drawing.now) from to s))) a n m fine r

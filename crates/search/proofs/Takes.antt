@@ -4,29 +4,26 @@ use Rattle.std.proofs.lemmas.List.{get_or_default}
 use Rattle.std.proofs.lemmas.Bool.{false≢true}
 use Rattle.cost.specs.declared.kind.CostKind.{Ghosts as Kind}
 use Rattle.rules.specs.declared.rule.TurnRule.{Ghosts as Rule}
-use Rattle.plan.specs.Plans.{plan_of}
 use Rattle.walks.specs.Labels.{Label as Mark, KeyAtMost}
 use Rattle.walks.specs.Loop.{Inv, Relaxing}
 use Rattle.walks.proofs.Loop.{flag_kept, inv_take, relaxing_same}
-use Rattle.search.specs.Grounds.{net_of}
+use Rattle.search.specs.Grounds.{drawn_in, net_of}
 use Rattle.search.specs.Labels.{plain, label_in}
-use Rattle.search.specs.Queues.{Least, edge_in, in_queue, moved_up}
-use Rattle.search.specs.Stages.{Working}
-use Rattle.search.specs.declared.ground.Ground.{Ground}
+use Rattle.search.specs.Queues.{Least, edge_in, in_queue}
+use Rattle.search.specs.declared.question.Question.{Question}
 use Rattle.search.specs.declared.label.Label.{Label}
 use Rattle.search.specs.declared.queue.QueueSlot.{QueueSlot}
-use Rattle.search.proofs.Marks.{label_is, label_read, meaning_some}
-use Rattle.search.proofs.Slots.{filled_less, filled_within, slot_of, standing, taken_out}
+use Rattle.search.proofs.Marks.{label_held, label_is, label_read, meaning_some}
+use Rattle.search.proofs.Slots.{filled_less, filled_within, moved_up, slot_of, standing, taken_out}
+use Rattle.search.proofs.Steps.{Working}
 
-module _ {R C : Type 0} (T : Rule R) (K : Kind C) (g : Ground R C) (ls : List (Label C)) (slots : List QueueSlot) (m at : ℕ) (w : Working K g ls slots (m + 1)) (within : m + 1 ≤ length slots) (there : at < m + 1) where
-  pub working_taken : Working K g ls (moved_up slots m at) m
+module _ {R C : Type 0} (T : Rule R) (K : Kind C) (g : Question R C) (ls : List (Label C)) (slots : List QueueSlot) (m at : ℕ) (w : Working g ls slots (m + 1)) (within : m + 1 ≤ length slots) (there : at < m + 1) where
+  pub working_taken : Working g ls (moved_up slots m at) m
   working_taken =
       record {
         size = w.size;
-        covered = w.covered;
-        fine = w.fine;
-        filled = filled_less slots m (length (plan_of g.drawing.now).edges) at w.filled there within;
-        waiting = λ e d h q. w.waiting e d h (flag_kept (in_queue slots (m + 1)) (edge_in slots at) false true e false≢ (taken_out slots m (length (plan_of g.drawing.now).edges) at w.filled there within e ∙ q));
+        filled = filled_less slots m (drawn_in g) at w.filled there within;
+        waiting = λ e d h q. w.waiting e d h (flag_kept (in_queue slots (m + 1)) (edge_in slots at) false true e false≢ (taken_out slots m (drawn_in g) at w.filled there within e ∙ q));
       }
     where
       false≢ : false ≡ true → ⊥
@@ -41,7 +38,7 @@ module _ {R C : Type 0} (T : Rule R) (K : Kind C) (g : Ground R C) (ls : List (L
 
     pub relaxing_taken : (a n : ℕ) → Inv (net_of T K g) a (label_in K ls) (in_queue slots (m + 1)) n → Relaxing (net_of T K g) a (label_in K ls) (in_queue (moved_up slots m at) m) (n + 1) (edge_in slots at) (plain K x) 0
     relaxing_taken a n i =
-        relaxing_same (λ _. refl) (taken_out slots m (length (plan_of g.drawing.now).edges) at w.filled there within)
+        relaxing_same (λ _. refl) (taken_out slots m (drawn_in g) at w.filled there within)
         (inv_take i (edge_in slots at) (plain K x) (standing slots (m + 1) at there within) (label_read K ls (edge_in slots at) x drawn_taken reads ∙ meaning_some K x filled_taken) before)
       where
         before : (f : ℕ) (y : Mark) → in_queue slots (m + 1) f ≡ true → label_in K ls f ≡ Some y → KeyAtMost (plain K x) y
@@ -54,20 +51,20 @@ module _ {R C : Type 0} (T : Rule R) (K : Kind C) (g : Ground R C) (ls : List (L
             subst₂ KeyAtMost (ap (plain K) (sym reads)) (sym e) h
 
 -- the same, from the length of the queue before
-module _ {R C : Type 0} (T : Rule R) (K : Kind C) (g : Ground R C) (ls : List (Label C)) (slots : List QueueSlot) (len at : ℕ) (some : 0 < len) (w : Working K g ls slots len) (there : at < len) where
+module _ {R C : Type 0} (T : Rule R) (K : Kind C) (g : Question R C) (ls : List (Label C)) (slots : List QueueSlot) (len at : ℕ) (w : Working g ls slots len) (there : at < len) where
   one_less : len ≡ len - 1 + 1
   one_less = omega arith
 
-  w' : Working K g ls slots (len - 1 + 1)
-  w' = subst (Working K g ls slots) one_less w
+  w' : Working g ls slots (len - 1 + 1)
+  w' = subst (Working g ls slots) one_less w
 
   within' : len - 1 + 1 ≤ length slots
-  within' = omega (arith, filled_within slots len (length (plan_of g.drawing.now).edges) w.filled)
+  within' = omega (arith, filled_within slots len (drawn_in g) w.filled)
 
   there' : at < len - 1 + 1
   there' = omega arith
 
-  pub working_left : Working K g ls (moved_up slots (len - 1) at) (len - 1)
+  pub working_left : Working g ls (moved_up slots (len - 1) at) (len - 1)
   working_left = working_taken T K g ls slots (len - 1) at w' within' there'
 
   pub drawn_left : edge_in slots at < length ls
@@ -77,3 +74,9 @@ module _ {R C : Type 0} (T : Rule R) (K : Kind C) (g : Ground R C) (ls : List (L
   relaxing_left x reads least a n i =
       relaxing_taken T K g ls slots (len - 1) at w' within' there' x reads (subst (λ m. Least K ls slots m at) one_less least) a n
       (subst (λ m. Inv (net_of T K g) a (label_in K ls) (in_queue slots m) n) one_less i)
+
+  pub taking : Least K ls slots len at → (a n : ℕ) → Inv (net_of T K g) a (label_in K ls) (in_queue slots len) n → (x : Mark) × Relaxing (net_of T K g) a (label_in K ls) (in_queue (moved_up slots (len - 1) at) (len - 1)) (n + 1) (edge_in slots at) x 0
+  taking least a n i =
+      let q = i.running.queued (edge_in slots at) (standing slots len at there (filled_within slots len (drawn_in g) w.filled)) in
+      let h = label_held K ls (edge_in slots at) q.0 q.1 in
+      (plain K h.0, relaxing_left h.0 h.1 least a n i)

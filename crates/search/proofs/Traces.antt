@@ -9,10 +9,10 @@ use Rattle.walks.proofs.Options.{some_only}
 use Rattle.cost.specs.declared.kind.CostKind.{Ghosts as Kind}
 use Rattle.rules.specs.declared.rule.TurnRule.{Ghosts as Rule}
 use Rattle.plan.specs.Plans.{edge_at, plan_of}
-use Rattle.search.specs.Grounds.{net_of}
+use Rattle.search.specs.Grounds.{drawn_in, net_of}
 use Rattle.search.specs.Labels.{label_in, plain}
 use Rattle.search.specs.Traces.{Traced}
-use Rattle.search.specs.declared.ground.Ground.{Ground}
+use Rattle.search.specs.declared.question.Question.{Question}
 use Rattle.search.specs.declared.label.Label.{Label}
 use Rattle.search.proofs.Adds.{any_long}
 use Rattle.search.proofs.Marks.{label_is}
@@ -146,7 +146,7 @@ module _ (g : Network) (L : Labelling) (last : ℕ) (before : List ℕ) (at plac
         lengths = omega (arith, i.total, ap (lengths g) z, lengths_walk g last i.whole);
       })
 
-module _ {R C : Type 0} (T : Rule R) (K : Kind C) (g : Ground R C) (ls : List (Label C)) where
+module _ {R C : Type 0} (T : Rule R) (K : Kind C) (g : Question R C) (ls : List (Label C)) where
   -- a label on the way holds what its trail says
   pub trail_plain : (z : ℕ) (t : List ℕ) (x : Label C) → Trail (net_of T K g) (label_in K ls) z t → z < length ls → x ≡ get_or ls z x → label_in K ls z ≡ Some (plain K x)
   trail_plain z t x h drawn reads =
@@ -163,7 +163,7 @@ module _ {R C : Type 0} (T : Rule R) (K : Kind C) (g : Ground R C) (ls : List (L
     pub tracing_again : Tracing (net_of T K g) (label_in K ls) last before x.previous (place - 1) (set route place at) (charge + T.charge g.rule.now (plan_of g.drawing.now) x.previous at) (long + (edge_at (plan_of g.drawing.now) x.previous).length)
     tracing_again = tracing_more (net_of T K g) (label_in K ls) last before at place route charge long i (plain K x) some marked
 
-    pub previous_drawn : x.previous < length (plan_of g.drawing.now).edges
+    pub previous_drawn : x.previous < drawn_in g
     previous_drawn = (trail_usable (net_of T K g) (label_in K ls) x.previous tracing_again.rest tracing_again.here).0
 
     pub charge_fits : ((e f : ℕ) → T.charge g.rule.now (plan_of g.drawing.now) e f ≤ 1000) → charge + T.charge g.rule.now (plan_of g.drawing.now) x.previous at ≤ 1024000

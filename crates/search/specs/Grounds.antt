@@ -5,8 +5,9 @@
 --   network p sheet charge places amount   the network of the plan p: its edges with their lengths and steps, open where the sheet's byte is 0, with these
 --                          charges for steps and these amounts for a charge and a length
 --   net T K p sheet rule s the network of the plan p and the sheet for a rule and for a kind of cost with the settings s
---   net_of T K g           the network of the ground g
---   settings_of K g        the settings of the cost that the ground g names
+--   drawn_in q             how many edges are drawn where the question q is asked
+--   net_of T K q           the network that the question q is asked over
+--   settings_of K q        the settings of the cost that the question q names
 -- Assumes nothing.
 use Rattle.std.specs.Prelude.{ℕ, not, List, length}
 use Rattle.cost.specs.declared.kind.CostKind.{Ghosts as Kind}
@@ -14,7 +15,7 @@ use Rattle.rules.specs.declared.rule.TurnRule.{Ghosts as Rule}
 use Rattle.plan.specs.Plans.{Plan, plan_of, edge_at, steps}
 use Rattle.plan.specs.Studies.{shut}
 use Rattle.walks.specs.Networks.{Network}
-use Rattle.search.specs.declared.ground.Ground.{Ground}
+use Rattle.search.specs.declared.question.Question.{Question}
 
 abbrev pub network : Plan → List ℕ → (ℕ → ℕ → ℕ) → ℕ → (ℕ → ℕ → List ℕ) → Network
 network p sheet charge places amount =
@@ -31,8 +32,11 @@ network p sheet charge places amount =
 abbrev pub net : {R C : Type 0} → Rule R → (K : Kind C) → Plan → List ℕ → R → K.Settings → Network
 net T K p sheet rule s = network p sheet (T.charge rule p) K.places (K.amount s)
 
-abbrev pub settings_of : {R C : Type 0} → (K : Kind C) → Ground R C → K.Settings
-settings_of K g = K.settings g.cost.now
+abbrev pub drawn_in : {R C : Type 0} → Question R C → ℕ
+drawn_in q = length (plan_of q.drawing.now).edges
 
-abbrev pub net_of : {R C : Type 0} → Rule R → Kind C → Ground R C → Network
-net_of T K g = net T K (plan_of g.drawing.now) g.sheet.now g.rule.now (settings_of K g)
+abbrev pub settings_of : {R C : Type 0} → (K : Kind C) → Question R C → K.Settings
+settings_of K q = K.settings q.cost.now
+
+abbrev pub net_of : {R C : Type 0} → Rule R → Kind C → Question R C → Network
+net_of T K q = net T K (plan_of q.drawing.now) q.sheet.now q.rule.now (settings_of K q)

@@ -4,6 +4,7 @@
 --   Kind              what a kind of cost means by settings, rows, additions and amounts
 --   Mark              a plain label: a row, a number of edges and a previous edge
 --   plain K x         the plain label that the label x holds
+--   SameKey x y       x and y cost the same and have as many edges
 --   meaning K x       the plain label that x holds, or none where its number of edges is 0
 --   label_in K ls e   what the labels ls hold for the edge e, in this sense
 --   Blank K s x       x is the label of an edge to which no walk leads: the empty cost with the settings s, 0 edges and the previous edge 65,535
@@ -19,6 +20,9 @@ use Rattle.search.specs.declared.label.Label.{Label}
 
 abbrev pub plain : {C : Type 0} → Kind C → Label C → Mark
 plain K x = record { row = K.row x.cost; edges = x.edges; previous = x.previous }
+
+abbrev pub SameKey : Mark → Mark → Type 0
+SameKey x y = (x.row ≡ y.row) × (x.edges ≡ y.edges)
 
 abbrev pub meaning : {C : Type 0} → Kind C → Label C → Option Mark
 meaning K x = cond (x.edges == 0) None (Some (plain K x))

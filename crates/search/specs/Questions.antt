@@ -9,7 +9,8 @@
 --                           queue or the route list is shorter than the edges drawn
 --   fault_by                the same, by the numbers: of edges drawn, of the two edges, and of the lengths of the four lists
 --   checked f               the answer of that check
---   asked T K rule σ ..     the question that asks with the rule and with the settings σ of the kind of cost
+--   asked_by T K rule σ ..  the question that asks with the rule and with the settings σ of the kind of cost
+--   asked T K q ..          the question q, over lists of these lengths
 --   HasLabel K σ g w x      the label x holds the cost (settings σ, as many additions as edges, the row), the edge count and the previous edge of the walk w
 --   Labelled K σ g a e x    x holds the label of the simplest walk from a to e; or no walk leads there, and x is Blank
 --   AllLabelled K σ g a ls  each of the labels ls is Labelled
@@ -26,12 +27,13 @@ use Rattle.plan.specs.Plans.{Plan}
 use Rattle.plan.specs.Studies.{Study}
 use Rattle.walks.specs.Labels.{before_last}
 use Rattle.walks.specs.Networks.{Network, Leads, Simplest, walk_charge, walk_length, walk_row}
-use Rattle.search.specs.Grounds.{network}
+use Rattle.search.specs.Grounds.{network, settings_of}
 use Rattle.search.specs.Labels.{Blank}
 use Rattle.search.specs.declared.answer.Answer.{Answer}
 use Rattle.search.specs.declared.fault.QuestionFault.{QuestionFault}
 use Rattle.search.specs.declared.fault.QuestionFault.TheVariants.{NotDrawn, Short, NoWalk}
 use Rattle.search.specs.declared.label.Label.{Label}
+use Rattle.search.specs.declared.question.Question.{Question as Asking}
 
 pub record Question : Type 0 where
   pub first : ℕ
@@ -66,9 +68,12 @@ abbrev pub checked : Option QuestionFault → Result (Unit {0}) QuestionFault
 checked (Some f) = Err f
 checked None = Ok tt
 
-abbrev pub asked : {R C : Type 0} → Rule R → (K : Kind C) → R → K.Settings → ℕ → ℕ → ℕ → ℕ → ℕ → Question
-asked T K rule σ first last labels queue route =
+abbrev pub asked_by : {R C : Type 0} → Rule R → (K : Kind C) → R → K.Settings → ℕ → ℕ → ℕ → ℕ → ℕ → Question
+asked_by T K rule σ first last labels queue route =
     record { first = first; last = last; labels = labels; queue = queue; route = route; charge = T.charge rule; places = K.places; amount = K.amount σ }
+
+abbrev pub asked : {R C : Type 0} → Rule R → Kind C → Asking R C → ℕ → ℕ → ℕ → Question
+asked T K q labels queue route = asked_by T K q.rule.now (settings_of K q) q.first q.last labels queue route
 
 pub record HasLabel {C : Type 0} (K : Kind C) (σ : K.Settings) (g : Network) (w : List ℕ) (x : Label C) : Type 0 where
   pub kept : K.settings x.cost ≡ σ

@@ -1,50 +1,70 @@
 -- What the steps of a search promise each other.
 --
 -- Glossary
---   Working K g ls slots len   the lists of a search in sound order: a label for each drawn edge, each Fine; a byte of the sheet for each; the queue Filled
---                          with edges that have a walk
---   Keeps T K g .. x e k j   where the steps of e, whose label is x, are relaxed up to the edge k, they are so up to the edge j afterwards
---   Settles T K g ..       where the loop's invariant holds with some number of settled edges, it holds afterwards with one more
---   Opens K g a x          x is the label of the walk of the edge a alone
---   Offered T K g x e f y  y is the label that the open edge f gets by the step from e, where x is the label of e
+--   Frontier               a search under way: its ground, the labels so far, and the queue of the edges that wait
+--   asked_of s             the question of the search s
+--   labelling K s          what its labels hold for an edge
+--   waiting s              whether an edge waits in its queue
+--   Searching T K s a n    between two turns of the search s from the edge a, of which n are done: each label is Fine, and the loop's invariant holds
+--   Turning T K s a n e x k   in a turn, after the edge e with the label x was taken: each label is Fine, and the steps of e to edges below k are relaxed
+--   Stays s s'             s' is a search over the ground of s and the labels that were lent to s
+--   Keeps T K s s' e k j   where the steps of e are relaxed up to the edge k in s, they are so up to the edge j in s'
+--   Takes T K s s' e       where the loop's invariant holds in s, e is taken in s', and none of its steps is relaxed yet
+--   Settles T K s s'       where the loop's invariant holds in s with some number of settled edges, it holds in s' with one more
+--   Opens K q x            x is the label of the walk of the first edge of the question q alone
+--   Offered T K q x e f y  y is the label that the open edge f gets by the step from e, where x is the label of e
 -- Assumes nothing.
-use Rattle.std.specs.Prelude.{◌≡◌, ℕ, ◌+◌, ◌<◌, ◌≤◌, true, List, length, slice_index_or}
+use Rattle.std.specs.Prelude.{◌≡◌, ℕ, ◌+◌, Bool, Option}
 use Rattle.cost.specs.declared.kind.CostKind.{Ghosts as Kind}
 use Rattle.rules.specs.declared.rule.TurnRule.{Ghosts as Rule}
 use Rattle.plan.specs.Plans.{plan_of, edge_at}
-use Rattle.walks.specs.Labels.{extension, none}
+use Rattle.walks.specs.Labels.{Label as Mark, extension, none}
 use Rattle.walks.specs.Networks.{Usable, Step}
-use Rattle.search.specs.Grounds.{net_of, settings_of}
 use Rattle.walks.specs.Loop.{Inv, Relaxing}
+use Rattle.search.specs.Grounds.{net_of, settings_of}
 use Rattle.search.specs.Labels.{plain, label_in, Fine, Each}
-use Rattle.search.specs.Queues.{Filled, in_queue}
-use Rattle.search.specs.declared.ground.Ground.{Ground}
+use Rattle.search.specs.Queues.{in_queue}
+use Rattle.search.specs.declared.question.Question.{Question}
+use Rattle.search.specs.declared.frontier.Frontier.{Frontier}
 use Rattle.search.specs.declared.label.Label.{Label}
-use Rattle.search.specs.declared.queue.QueueSlot.{QueueSlot}
 
-pub record Working {R C : Type 0} (K : Kind C) (g : Ground R C) (ls : List (Label C)) (slots : List QueueSlot) (len : ℕ) : Type 0 where
-  pub size : length ls ≡ length (plan_of g.drawing.now).edges
-  pub covered : length (plan_of g.drawing.now).edges ≤ length g.sheet.now
-  pub fine : Each (Fine K (settings_of K g)) ls
-  pub filled : Filled slots len (length (plan_of g.drawing.now).edges)
-  pub waiting : (e : ℕ) (d : Label C) → e < length ls → in_queue slots len e ≡ true → 0 < (slice_index_or ls e d).edges
+abbrev pub asked_of : {R C : Type 0} → Frontier R C → Question R C
+asked_of s = s.ground.now.question.now
 
-abbrev pub Keeps : {R C : Type 0} → Rule R → Kind C → Ground R C → List (Label C) → List QueueSlot → ℕ → List (Label C) → List QueueSlot → ℕ → Label C → ℕ → ℕ → ℕ → Type 0
-Keeps T K g ls slots len ls' slots' len' x e k j =
-    (a n : ℕ) → Relaxing (net_of T K g) a (label_in K ls) (in_queue slots len) n e (plain K x) k
-    → Relaxing (net_of T K g) a (label_in K ls') (in_queue slots' len') n e (plain K x) j
+abbrev pub labelling : {R C : Type 0} → Kind C → Frontier R C → ℕ → Option Mark
+labelling K s = label_in K s.labels.now
 
-abbrev pub Settles : {R C : Type 0} → Rule R → Kind C → Ground R C → List (Label C) → List QueueSlot → ℕ → List (Label C) → List QueueSlot → ℕ → Type 0
-Settles T K g ls slots len ls' slots' len' =
-    (a n : ℕ) → Inv (net_of T K g) a (label_in K ls) (in_queue slots len) n → Inv (net_of T K g) a (label_in K ls') (in_queue slots' len') (n + 1)
+abbrev pub waiting : {R C : Type 0} → Frontier R C → ℕ → Bool
+waiting s = in_queue s.queue.now s.len
 
-pub record Opens {R C : Type 0} (K : Kind C) (g : Ground R C) (a : ℕ) (x : Label C) : Type 0 where
-  pub row : K.row x.cost ≡ K.amount (settings_of K g) 0 (edge_at (plan_of g.drawing.now) a).length
+pub record Searching {R C : Type 0} (T : Rule R) (K : Kind C) (s : Frontier R C) (a n : ℕ) : Type 0 where
+  pub fine : Each (Fine K (settings_of K (asked_of s))) s.labels.now
+  pub inv : Inv (net_of T K (asked_of s)) a (labelling K s) (waiting s) n
+
+pub record Turning {R C : Type 0} (T : Rule R) (K : Kind C) (s : Frontier R C) (a n e : ℕ) (x : Mark) (k : ℕ) : Type 0 where
+  pub fine : Each (Fine K (settings_of K (asked_of s))) s.labels.now
+  pub relaxing : Relaxing (net_of T K (asked_of s)) a (labelling K s) (waiting s) n e x k
+
+pub record Stays {R C : Type 0} (s s' : Frontier R C) : Type 0 where
+  pub ground : s'.ground ≡ s.ground
+  pub lender : s'.labels.ghost_name ≡ s.labels.ghost_name
+
+abbrev pub Keeps : {R C : Type 0} → Rule R → Kind C → Frontier R C → Frontier R C → ℕ → ℕ → ℕ → Type 0
+Keeps T K s s' e k j = (a n : ℕ) (x : Mark) → Turning T K s a n e x k → Turning T K s' a n e x j
+
+abbrev pub Takes : {R C : Type 0} → Rule R → Kind C → Frontier R C → Frontier R C → ℕ → Type 0
+Takes T K s s' e = (a n : ℕ) → Searching T K s a n → (x : Mark) × Turning T K s' a (n + 1) e x 0
+
+abbrev pub Settles : {R C : Type 0} → Rule R → Kind C → Frontier R C → Frontier R C → Type 0
+Settles T K s s' = (a n : ℕ) → Searching T K s a n → Searching T K s' a (n + 1)
+
+pub record Opens {R C : Type 0} (K : Kind C) (q : Question R C) (x : Label C) : Type 0 where
+  pub row : K.row x.cost ≡ K.amount (settings_of K q) 0 (edge_at (plan_of q.drawing.now) q.first).length
   pub edges : x.edges ≡ 1
   pub previous : x.previous ≡ none
 
-pub record Offered {R C : Type 0} (T : Rule R) (K : Kind C) (g : Ground R C) (x : Label C) (e f : ℕ) (y : Label C) : Type 0 where
-  pub usable : Usable (net_of T K g) f
-  pub step : Step (net_of T K g) e f
-  pub value : plain K y ≡ extension (net_of T K g) (plain K x) e f
-  pub fine : Fine K (settings_of K g) y
+pub record Offered {R C : Type 0} (T : Rule R) (K : Kind C) (q : Question R C) (x : Label C) (e f : ℕ) (y : Label C) : Type 0 where
+  pub usable : Usable (net_of T K q) f
+  pub step : Step (net_of T K q) e f
+  pub value : plain K y ≡ extension (net_of T K q) (plain K x) e f
+  pub fine : Fine K (settings_of K q) y

@@ -15,12 +15,12 @@ pub enum QuestionFault {
     NoWalk(u32),
 }
 
-impl QuestionFault {
-    /// The refusal's number, detail and layer: `NoWalk(5)` is number 11 with detail 5 of the layer `question`.
-    pub fn refusal(self) -> Refusal
-        ensures value { result ≡ question_refusal self }
-    {
-        let (number, detail) = match self {
+/// The refusal's number, detail and layer: `NoWalk(5)` is number 11 with detail 5 of the layer `question`.
+impl From<QuestionFault> for Refusal {
+    ghost from_gives = { λ f r. r ≡ question_refusal f };
+
+    fn from(fault: QuestionFault) -> Refusal {
+        let (number, detail) = match fault {
             QuestionFault::NotDrawn(edge) => (8, edge),
             QuestionFault::Short(drawn) => (10, drawn),
             QuestionFault::NoWalk(last) => (11, last),

@@ -1,11 +1,14 @@
-// What a question is asked over.
-use plan::Drawing;
+// A question that passed its checks.
+ghost use Rattle.std.specs.Prelude.{◌<◌, ◌≤◌, length};
+ghost use Rattle.search.specs.Grounds.{drawn_in};
 
-/// The drawing, the closing sheet, the turn rule and the cost of a question. Of the cost only the settings are read.
+use crate::question::Question;
+
+/// A question between two drawn edges, with a byte of the sheet for each drawn edge.
 #[derive(Drop)]
-pub struct Ground<'d, 'e, 's, 'r, 'c, R, C> {
-    pub drawing: &'d Drawing<'e>,
-    pub sheet: &'s [u8],
-    pub rule: &'r R,
-    pub cost: &'c C,
+pub struct Ground<'q, 'd, R, C> {
+    pub question: &'q Question<'q, 'd, R, C>,
+    ghost covered: { drawn_in question.now ≤ length question.now.sheet.now },
+    ghost from: { question.now.first < drawn_in question.now },
+    ghost to: { question.now.last < drawn_in question.now },
 }

@@ -2,22 +2,22 @@
 #![tactic(auto)]
 
 mod answer;
+mod asking;
 mod clear;
-mod explore;
 mod fault;
 mod find;
+mod frontier;
 mod ground;
 mod label;
 mod offer;
 mod order;
 mod question;
 mod queue;
-mod relax;
-mod settle;
 mod trace;
 
 pub use answer::Answer;
+pub use asking::ask;
 pub use fault::QuestionFault;
 pub use label::Label;
-pub use question::ask;
+pub use question::Question;
 pub use queue::QueueSlot;

@@ -1,6 +1,0 @@
-use Rattle.std.proofs.Common.{◌<◌}
-use Rattle.search.specs.Queues.{Least}
-use Rattle.search.proofs.queue.least.Given as goal
-
-abbrev pub invariant-loop-at : goal.invariant-loop-at
-invariant-loop-at g l = (l.best < l.at) × Least g.C.CostKind l.labels l.queue l.at l.best
