@@ -11,19 +11,15 @@ use rules::{Ambiguity, Slots, TurnRule, Turns};
 impl TurnRule for RuleWord {
     const MOST: u32 = 21;
 
-    ghost charge = { λ word p e f. rule_charge word p e f };
+    ghost MOST = { 21 };
 
-    ghost most = { 21 };
+    ghost charge = { λ word p e f. rule_charge word p e f };
 
     ghost bounded = { λ word p e f s. bound word p e f s };
 
     ghost small = { Prim.search rules };
 
     ghost idle = { Prim.search rules };
-
-    fn largest() -> u32 {
-        Self::MOST
-    }
 
     fn charge(&self, drawing: &Drawing<'_>, from: u32, to: u32) -> u32 {
         match self {
