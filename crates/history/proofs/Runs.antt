@@ -9,7 +9,7 @@ use Rattle.plan.specs.declared.change.Change.{Change as Alteration}
 use Rattle.plan.specs.declared.drawing.Drawing.{Drawing}
 use Rattle.plan.specs.declared.row.EdgeRow.{EdgeRow}
 use Rattle.search.specs.Histories.{Agrees, Call as Event, after_calls, next_call}
-use Rattle.search.specs.Questions.{Answers, Question, asked}
+use Rattle.search.specs.Questions.{Answers, Question, asked_by}
 use Rattle.search.specs.declared.answer.Answer.{Answer}
 use Rattle.search.specs.declared.fault.QuestionFault.{QuestionFault}
 use Rattle.search.specs.declared.label.Label.{Label}
@@ -39,13 +39,13 @@ run_change T K queue s (Ask first last rule cost ∷ h) c labels labels' route r
 -- a run that grows by a question, answered in the study after the calls before it
 run_ask : {R C : Type 0} (T : Rule R) (K : Kind C) (queue m n : ℕ) (s : Study) (h : List (Call R C)) (a z : ℕ) (rule : R) (cost : C) (labels held labels' : List (Label C)) (route found route' : List ℕ) (r : Result (Answer C) QuestionFault)
     → Run T K queue s h labels held route found
-    → Answers K (K.settings cost) (after_calls s (calls_of T K m queue n h)) (asked T K rule (K.settings cost) a z (length held) queue (length found)) held labels' found route' r
+    → Answers K (K.settings cost) (after_calls s (calls_of T K m queue n h)) (asked_by T K rule (K.settings cost) a z (length held) queue (length found)) held labels' found route' r
     → Run T K queue s (h ++ Ask a z rule cost ∷ []) labels labels' route route'
 run_ask T K queue m n s [] a z rule cost labels held labels' route found route' r (same, alike) answers = (
   labels',
   route',
   r,
-  subst₂ (λ x y. Answers K (K.settings cost) s (asked T K rule (K.settings cost) a z (length x) queue (length y)) x labels' y route' r) same alike answers,
+  subst₂ (λ x y. Answers K (K.settings cost) s (asked_by T K rule (K.settings cost) a z (length x) queue (length y)) x labels' y route' r) same alike answers,
   (refl, refl),
 )
 run_ask T K queue m n s (Change d ∷ h) a z rule cost labels held labels' route found route' r run answers = run_ask T K queue m n (next s d) h a z rule cost labels held labels' route found route' r run answers
@@ -65,28 +65,28 @@ run_more_change T K queue s calls k x c labels labels' route route' l e is run =
 pub run_more_ask : {R C : Type 0} (T : Rule R) (K : Kind C) (queue queue' m n : ℕ) (s t : Study) (calls : List (Call R C)) (k : ℕ) (x : Call R C) (a z : ℕ) (rule : R) (cost : C) (labels held labels' : List (Label C)) (route found route' : List ℕ) (r : Result (Answer C) QuestionFault)
     → k < length calls → x ≡ get_or calls k x → x ≡ Ask a z rule cost → queue' ≡ queue → t ≡ after_calls s (calls_of T K m queue n (take k calls))
     → Run T K queue s (take k calls) labels held route found
-    → Answers K (K.settings cost) t (asked T K rule (K.settings cost) a z (length held) queue' (length found)) held labels' found route' r
+    → Answers K (K.settings cost) t (asked_by T K rule (K.settings cost) a z (length held) queue' (length found)) held labels' found route' r
     → Run T K queue s (take (k + 1) calls) labels labels' route route'
 run_more_ask T K queue queue' m n s t calls k x a z rule cost labels held labels' route found route' r l e is wide same run answers =
     subst (λ h. Run T K queue s h labels labels' route route') (one_more calls k x (Ask a z rule cost) l e is)
     (run_ask T K queue m n s (take k calls) a z rule cost labels held labels' route found route' r run
-    (subst₂ (λ u width. Answers K (K.settings cost) u (asked T K rule (K.settings cost) a z (length held) width (length found)) held labels' found route' r) same wide answers))
+    (subst₂ (λ u width. Answers K (K.settings cost) u (asked_by T K rule (K.settings cost) a z (length held) width (length found)) held labels' found route' r) same wide answers))
 
 pub rows_back : (brought rows : List EdgeRow) (d : Drawing) (edges : List EdgeRow) → rows ≡ (plan_of d).edges ++ spare_of d → Over brought d → (plan_of d).edges ≡ edges → rows ≡ drawn_over brought edges
 rows_back brought rows d edges back over e = back ∙ ap (λ rest. (plan_of d).edges ++ rest) over ∙ ap (drawn_over brought) e
 
 module _ {R C : Type 0} (T : Rule R) (K : Kind C) (rule : R) (σ : K.Settings) (first last : ℕ) (labels held labels' : List (Label C)) (route found route' : List ℕ) (queue queue' : ℕ) (s begin start : Study) (calls : List (Call R C)) (r : Result (Answer C) QuestionFault) (as_many : length held ≡ length labels) (as_long : length found ≡ length route) (as_wide : queue' ≡ queue) (begins : begin ≡ start) (same : s ≡ after_calls start (calls_of T K (length labels) queue (length route) calls)) where
-  carried : (P : Study → Question → Type 0) → P s (asked T K rule σ first last (length held) queue' (length found)) → P (after_calls start (calls_of T K (length labels) queue (length route) calls)) (asked T K rule σ first last (length labels) queue (length route))
+  carried : (P : Study → Question → Type 0) → P s (asked_by T K rule σ first last (length held) queue' (length found)) → P (after_calls start (calls_of T K (length labels) queue (length route) calls)) (asked_by T K rule σ first last (length labels) queue (length route))
   carried P h =
-      subst (λ x. P x (asked T K rule σ first last (length labels) queue (length route))) same
-      (subst (λ n. P s (asked T K rule σ first last (length labels) queue n)) as_long
-      (subst (λ n. P s (asked T K rule σ first last (length labels) n (length found))) as_wide
-      (subst (λ n. P s (asked T K rule σ first last n queue' (length found))) as_many h)))
+      subst (λ x. P x (asked_by T K rule σ first last (length labels) queue (length route))) same
+      (subst (λ n. P s (asked_by T K rule σ first last (length labels) queue n)) as_long
+      (subst (λ n. P s (asked_by T K rule σ first last (length labels) n (length found))) as_wide
+      (subst (λ n. P s (asked_by T K rule σ first last n queue' (length found))) as_many h)))
 
   pub replayed : Run T K queue begin calls labels held route found
-      → Answers K σ s (asked T K rule σ first last (length held) queue' (length found)) held labels' found route' r
-      → Agrees K σ s (asked T K rule σ first last (length held) queue' (length found)) route' r
-      → ReplayedByRun T K σ start calls (asked T K rule σ first last (length labels) queue (length route)) labels labels' route route' r
+      → Answers K σ s (asked_by T K rule σ first last (length held) queue' (length found)) held labels' found route' r
+      → Agrees K σ s (asked_by T K rule σ first last (length held) queue' (length found)) route' r
+      → ReplayedByRun T K σ start calls (asked_by T K rule σ first last (length labels) queue (length route)) labels labels' route route' r
   replayed run answers agrees = record {
     replayed = record {
       held = held;

@@ -19,7 +19,7 @@ use Rattle.rules.specs.declared.rule.TurnRule.{Ghosts as Rule}
 use Rattle.plan.specs.Studies.{Study, next}
 use Rattle.plan.specs.declared.row.EdgeRow.{EdgeRow}
 use Rattle.search.specs.Histories.{Agrees, Call as Event, after_calls, asking, changing}
-use Rattle.search.specs.Questions.{Answers, Question, asked}
+use Rattle.search.specs.Questions.{Answers, Question, asked_by}
 use Rattle.search.specs.declared.answer.Answer.{Answer}
 use Rattle.search.specs.declared.fault.QuestionFault.{QuestionFault}
 use Rattle.search.specs.declared.label.Label.{Label}
@@ -28,7 +28,7 @@ use Rattle.history.specs.declared.call.Call.TheVariants.{Change, Ask}
 
 abbrev pub call_of : {R C : Type 0} → Rule R → Kind C → ℕ → ℕ → ℕ → Call R C → Event
 call_of T K labels queue route (Change c) = changing c
-call_of T K labels queue route (Ask first last rule cost) = asking (asked T K rule (K.settings cost) first last labels queue route)
+call_of T K labels queue route (Ask first last rule cost) = asking (asked_by T K rule (K.settings cost) first last labels queue route)
 
 abbrev pub calls_of : {R C : Type 0} → Rule R → Kind C → ℕ → ℕ → ℕ → List (Call R C) → List Event
 calls_of T K labels queue route calls = map (call_of T K labels queue route) calls
@@ -49,7 +49,7 @@ Run T K queue s [] labels labels' route route' = (labels' ≡ labels) × (route'
 Run T K queue s (Change c ∷ calls) labels labels' route route' = Run T K queue (next s c) calls labels labels' route route'
 Run {C = C} T K queue s (Ask first last rule cost ∷ calls) labels labels' route route' =
     (held : List (Label C)) × (found : List ℕ) × (r : Result (Answer C) QuestionFault)
-    × Answers K (K.settings cost) s (asked T K rule (K.settings cost) first last (length labels) queue (length route)) labels held route found r
+    × Answers K (K.settings cost) s (asked_by T K rule (K.settings cost) first last (length labels) queue (length route)) labels held route found r
     × Run T K queue s calls held labels' found route'
 
 pub record ReplayedByRun {R C : Type 0} (T : Rule R) (K : Kind C) (σ : K.Settings) (start : Study) (calls : List (Call R C)) (q : Question) (labels labels' : List (Label C)) (route route' : List ℕ) (r : Result (Answer C) QuestionFault) : Type 0 where

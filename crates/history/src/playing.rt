@@ -5,14 +5,14 @@ ghost use Rattle.plan.specs.Plans.{Over, lender_of};
 ghost use Rattle.plan.specs.Studies.{begun, study_of};
 ghost use Rattle.plan.specs.declared.row.EdgeRow.{EdgeRow};
 ghost use Rattle.search.specs.Histories.{after_calls};
-ghost use Rattle.search.specs.Questions.{asked};
+ghost use Rattle.search.specs.Questions.{asked_by};
 ghost use Rattle.history.specs.Replays.{Replayed, ReplayedByRun, Run, calls_of, drawn_over};
 
 use crate::call::Call;
 use cost::CostKind;
 use plan::{Drawing, EdgeRow, apply};
 use rules::TurnRule;
-use search::{Answer, Label, QuestionFault, QueueSlot, ask};
+use search::{Answer, Label, Question, QuestionFault, QueueSlot, ask};
 use turns::Sectors;
 
 /// Makes a study from nothing, over the rows and the sheet that are brought, makes every call of the list with the real functions, whatever they answer,
@@ -33,17 +33,23 @@ pub fn replay<R: TurnRule, C: CostKind>(
     queue: &mut [QueueSlot],
     route: &mut [u16],
 ) -> Result<Answer<C>, QuestionFault>
-    ensures answers { Replayed C.CostKind (C.CostKind.settings cost.now) (after_calls (begun (limits_of limits) (length rows.old) (length sheet.old)) (calls_of R.TurnRule C.CostKind (length labels.old) (length queue.old) (length route.old) calls.now)) (asked R.TurnRule C.CostKind rule.now (C.CostKind.settings cost.now) first last (length labels.old) (length queue.old) (length route.old)) labels.old labels.new route.old route.new result }
-    ensures run { ReplayedByRun R.TurnRule C.CostKind (C.CostKind.settings cost.now) (begun (limits_of limits) (length rows.old) (length sheet.old)) calls.now (asked R.TurnRule C.CostKind rule.now (C.CostKind.settings cost.now) first last (length labels.old) (length queue.old) (length route.old)) labels.old labels.new route.old route.new result }
+    ensures answers { Replayed C.CostKind (C.CostKind.settings cost.now) (after_calls (begun (limits_of limits) (length rows.old) (length sheet.old)) (calls_of R.TurnRule C.CostKind (length labels.old) (length queue.old) (length route.old) calls.now)) (asked_by R.TurnRule C.CostKind rule.now (C.CostKind.settings cost.now) first last (length labels.old) (length queue.old) (length route.old)) labels.old labels.new route.old route.new result }
+    ensures run { ReplayedByRun R.TurnRule C.CostKind (C.CostKind.settings cost.now) (begun (limits_of limits) (length rows.old) (length sheet.old)) calls.now (asked_by R.TurnRule C.CostKind rule.now (C.CostKind.settings cost.now) first last (length labels.old) (length queue.old) (length route.old)) labels.old labels.new route.old route.new result }
     ensures rows { rows.new ≡ drawn_over rows.old (after_calls (begun (limits_of limits) (length rows.old) (length sheet.old)) (calls_of R.TurnRule C.CostKind (length labels.old) (length queue.old) (length route.old) calls.now)).edges }
     ensures sheet { sheet.new ≡ (after_calls (begun (limits_of limits) (length rows.old) (length sheet.old)) (calls_of R.TurnRule C.CostKind (length labels.old) (length queue.old) (length route.old) calls.now)).sheet }
 {
     sheet.fill(0);
     let mut drawing = Drawing::new(limits, rows);
     make_calls(&mut drawing, sheet, calls, labels, queue, route);
-    let answer = ask(
-        &drawing, sheet, rule, cost, first, last, labels, queue, route,
-    );
+    let question = Question {
+        drawing: &drawing,
+        sheet,
+        rule,
+        cost,
+        first,
+        last,
+    };
+    let answer = ask(&question, labels, queue, route);
     drawing.release();
     answer
 }
@@ -73,9 +79,15 @@ fn make_calls<R: TurnRule, C: CostKind>(
                 rule,
                 cost,
             } => {
-                let _ = ask(
-                    drawing, sheet, rule, cost, *first, *last, labels, queue, route,
-                );
+                let question = Question {
+                    drawing,
+                    sheet,
+                    rule,
+                    cost,
+                    first: *first,
+                    last: *last,
+                };
+                let _ = ask(&question, labels, queue, route);
             }
         }
     }

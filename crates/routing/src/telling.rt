@@ -8,7 +8,7 @@ ghost use Rattle.routing.specs.Tellings.{Tells};
 use crate::choice::RuleWord;
 use cost::CostKind;
 use plan::Drawing;
-use search::{Label, QuestionFault, QueueSlot, ask};
+use search::{Label, Question, QuestionFault, QueueSlot, ask};
 
 /// The sums of a route: of its charges and of its lengths, and its number of edges. The edges begin the route list.
 #[derive(Clone, Copy)]
@@ -46,14 +46,18 @@ pub(crate) fn tell<C: CostKind>(
         first,
         last,
     } = asked;
-    match ask(
-        drawing, sheet, &rule, cost, first, last, labels, queue, route,
-    ) {
-        Ok(answer) => Ok(Found {
-            charge: answer.charge,
-            length: answer.length,
-            edges: answer.edges,
-        }),
-        Err(fault) => Err(fault),
-    }
+    let question = Question {
+        drawing,
+        sheet,
+        rule: &rule,
+        cost,
+        first,
+        last,
+    };
+    let answer = ask(&question, labels, queue, route)?;
+    Ok(Found {
+        charge: answer.charge,
+        length: answer.length,
+        edges: answer.edges,
+    })
 }
