@@ -10,12 +10,10 @@
 --                           others are untouched
 -- Assumes nothing.
 use Rattle.std.specs.Prelude.{◌≡◌, ℕ, List, length, take, drop, Some, None, Option}
+use Rattle.cost.specs.Kinds.{charge_kind, distance_kind, weighted_kind}
 use Rattle.cost.specs.Rankings.{ranked_additions, ranked_amount, ranked_places, ranked_row, ranked_settings}
 use Rattle.cost.specs.Weights.{Weights}
-use Rattle.cost.specs.contracts.charge.ChargeCostKind.TheImpl.{ghosts as charges}
-use Rattle.cost.specs.contracts.distance.DistanceCostKind.TheImpl.{ghosts as distances}
 use Rattle.cost.specs.contracts.tally.TallyCostKind.TheImpl.{ghosts as tallies}
-use Rattle.cost.specs.contracts.weighted.WeightedCostKind.TheImpl.{ghosts as weighted_by}
 use Rattle.cost.specs.declared.kind.CostKind.{Ghosts as Kind}
 use Rattle.cost.specs.declared.ranked.Ranked.{Ranked as Pair}
 use Rattle.plan.specs.Studies.{Study}
@@ -60,14 +58,14 @@ six_fold = record { distance = 1; charge = 6 }
 
 abbrev pub Worked : KindWord → Study → Question → Workspace → Workspace → Type 0
 Worked Distance s q w w' =
-    Leaves distances tt s q w.distance.now w'.distance.now
+    Leaves distance_kind tt s q w.distance.now w'.distance.now
     × (w'.ranked.now ≡ w.ranked.now) × (w'.weighted.now ≡ w.weighted.now) × (w'.tally.now ≡ w.tally.now)
 Worked Ranked s q w w' =
-    Leaves (ranked_by charges distances) (tt, tt) s q w.ranked.now w'.ranked.now
+    Leaves (ranked_by charge_kind distance_kind) (tt, tt) s q w.ranked.now w'.ranked.now
     × (w'.distance.now ≡ w.distance.now) × (w'.weighted.now ≡ w.weighted.now) × (w'.tally.now ≡ w.tally.now)
 Worked Weighted s q w w' =
-    Leaves weighted_by six_fold s q w.weighted.now w'.weighted.now
+    Leaves weighted_kind six_fold s q w.weighted.now w'.weighted.now
     × (w'.distance.now ≡ w.distance.now) × (w'.ranked.now ≡ w.ranked.now) × (w'.tally.now ≡ w.tally.now)
 Worked Tally s q w w' =
-    Leaves (ranked_by tallies distances) (tt, tt) s q w.tally.now w'.tally.now
+    Leaves (ranked_by tallies distance_kind) (tt, tt) s q w.tally.now w'.tally.now
     × (w'.distance.now ≡ w.distance.now) × (w'.ranked.now ≡ w.ranked.now) × (w'.weighted.now ≡ w.weighted.now)

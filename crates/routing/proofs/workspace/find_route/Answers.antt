@@ -1,6 +1,6 @@
 use Rattle.std.proofs.Common.{length, refl, subst}
 use Rattle.cost.specs.Weights.{Weights, weighted_amount}
-use Rattle.cost.specs.contracts.weighted.WeightedCostKind.TheImpl.{ghosts as weighted_by}
+use Rattle.cost.specs.Kinds.{weighted_kind}
 use Rattle.plan.specs.Studies.{study_of}
 use Rattle.routing.specs.Choices.{by_rule}
 use Rattle.routing.specs.Lists.{Leaves}
@@ -29,5 +29,5 @@ returns-in-Tally c = record {
 pub returns-in-Ok : goal.returns-in-Ok
 returns-in-Ok c = record {
   cases = tells_kind (study_of c.args.drawing.now c.args.sheet.now) c.args.rule c.in-Weighted.is c.args.first c.args.last (length c.args.queue.now) (length c.args.route.now) c.args.work.now c.args.route.now c.tell-in-Ok.new.route c.tell-in-Ok.result (subst (λ (σ : Weights). Tells (study_of c.args.drawing.now c.args.sheet.now) (by_rule c.args.rule 1 (weighted_amount σ) c.args.first c.args.last (length c.args.work.now.weighted.now) (length c.args.queue.now) (length c.args.route.now)) c.args.route.now c.tell-in-Ok.new.route c.tell-in-Ok.result) c.in-Ok.ensures.same c.tell-in-Ok.ensures.cases);
-  labels = worked_kind (study_of c.args.drawing.now c.args.sheet.now) c.args.rule c.in-Weighted.is c.args.first c.args.last (length c.args.queue.now) (length c.args.route.now) c.args.work.now _ (subst (λ (σ : Weights). Leaves weighted_by σ (study_of c.args.drawing.now c.args.sheet.now) (by_rule c.args.rule 1 (weighted_amount σ) c.args.first c.args.last (length c.args.work.now.weighted.now) (length c.args.queue.now) (length c.args.route.now)) c.args.work.now.weighted.now c.tell-in-Ok.new.labels) c.in-Ok.ensures.same c.tell-in-Ok.ensures.labels, refl, refl, refl);
+  labels = worked_kind (study_of c.args.drawing.now c.args.sheet.now) c.args.rule c.in-Weighted.is c.args.first c.args.last (length c.args.queue.now) (length c.args.route.now) c.args.work.now _ (subst (λ (σ : Weights). Leaves weighted_kind σ (study_of c.args.drawing.now c.args.sheet.now) (by_rule c.args.rule 1 (weighted_amount σ) c.args.first c.args.last (length c.args.work.now.weighted.now) (length c.args.queue.now) (length c.args.route.now)) c.args.work.now.weighted.now c.tell-in-Ok.new.labels) c.in-Ok.ensures.same c.tell-in-Ok.ensures.labels, refl, refl, refl);
 }
