@@ -8,6 +8,7 @@
 --                             at the third for 1 to 3, and the length behind them
 --   by_rule r places amount .. the question with the rule of the word r and a kind of cost of these places and amounts
 --   question_of r k ..        the question with that rule and that kind
+--   worded q labels queue route   the question q by its words, over lists of these lengths
 -- Assumes nothing.
 use Rattle.std.specs.Prelude.{ℕ, ◌+◌, ◌*◌, List, [], ◌∷◌}
 use Rattle.cost.specs.Tallies.{heavy, light, middle}
@@ -16,6 +17,7 @@ use Rattle.rules.specs.Ambiguity.{ambiguity_charge}
 use Rattle.rules.specs.Slots.{slots_charge}
 use Rattle.rules.specs.Turns.{turns_charge}
 use Rattle.search.specs.Questions.{Question}
+use Rattle.search.specs.declared.question.Question.{Question as Asking}
 use Rattle.routing.specs.declared.choice.KindWord.{KindWord}
 use Rattle.routing.specs.declared.choice.KindWord.TheVariants.{Distance, Ranked, Weighted, Tally}
 use Rattle.routing.specs.declared.choice.RuleWord.{RuleWord}
@@ -44,3 +46,6 @@ by_rule rule places amount first last labels queue route =
 
 abbrev pub question_of : RuleWord → KindWord → ℕ → ℕ → ℕ → ℕ → ℕ → Question
 question_of rule kind first last labels queue route = by_rule rule (kind_places kind) (kind_amount kind) first last labels queue route
+
+abbrev pub worded : Asking RuleWord KindWord → ℕ → ℕ → ℕ → Question
+worded q labels queue route = question_of q.rule.now q.cost.now q.first q.last labels queue route

@@ -1,6 +1,7 @@
 -- What is told of a question: its route and the sums, or why there is none. What a question answers besides is left out.
 --
 -- Glossary
+--   found_in a       what is told of the answer a
 --   HasSums g w r    r has the sum of the charges, the sum of the lengths and the number of edges of the walk w
 --   TellsBy, Tells   refused exactly where question_fault says so, with the route list as it was; else, either there is a walk, and the route list begins with
 --                    the simplest, of which the sums are told, and is unchanged behind it; or there is none, the refusal is 11 with the last edge, and the
@@ -10,9 +11,13 @@ use Rattle.std.specs.Prelude.{◌≡◌, ℕ, List, ◌++◌, length, drop, Some
 use Rattle.plan.specs.Studies.{Study}
 use Rattle.walks.specs.Networks.{Leads, Network, Simplest, walk_charge, walk_length}
 use Rattle.search.specs.Questions.{Question, ground_at, question_fault}
+use Rattle.search.specs.declared.answer.Answer.{Answer}
 use Rattle.search.specs.declared.fault.QuestionFault.{QuestionFault}
 use Rattle.search.specs.declared.fault.QuestionFault.TheVariants.{NoWalk}
 use Rattle.routing.specs.declared.telling.Found.{Found}
+
+abbrev pub found_in : {C : Type 0} → Answer C → Found
+found_in a = record { charge = a.charge; length = a.length; edges = a.edges }
 
 pub record HasSums (g : Network) (w : List ℕ) (r : Found) : Type 0 where
   pub charge : r.charge ≡ walk_charge g w

@@ -1,14 +1,13 @@
 // What is told of a question's answer: its route and the sums.
-ghost use Rattle.std.specs.Prelude.{length};
+ghost use Rattle.std.specs.Prelude.{◌≡◌, length};
 ghost use Rattle.plan.specs.Studies.{study_of};
 ghost use Rattle.routing.specs.Choices.{by_rule};
 ghost use Rattle.routing.specs.Lists.{Leaves};
-ghost use Rattle.routing.specs.Tellings.{Tells};
+ghost use Rattle.routing.specs.Tellings.{Tells, found_in};
 
-use crate::choice::RuleWord;
+use crate::choice::{KindWord, RuleWord};
 use cost::CostKind;
-use plan::Drawing;
-use search::{Label, Question, QuestionFault, QueueSlot, ask};
+use search::{Answer, Label, Question, QuestionFault, QueueSlot, ask};
 
 /// The sums of a route: of its charges and of its lengths, and its number of edges. The edges begin the route list.
 #[derive(Clone, Copy)]
@@ -18,46 +17,38 @@ pub struct Found {
     pub edges: u32,
 }
 
-// A question, up to its kind of cost and the lists that it works in.
-#[derive(Clone, Copy)]
-pub struct Asked<'d, 'e, 's> {
-    pub drawing: &'d Drawing<'e>,
-    pub sheet: &'s [u8],
-    pub rule: RuleWord,
-    pub first: u32,
-    pub last: u32,
+/// Leaves out the cost of an answer.
+impl<C: CostKind> From<Answer<C>> for Found {
+    ghost from_gives = { λ answer found. found ≡ found_in answer };
+
+    fn from(answer: Answer<C>) -> Found {
+        Found {
+            charge: answer.charge,
+            length: answer.length,
+            edges: answer.edges,
+        }
+    }
 }
 
-// Asks by a kind of cost, and leaves out the cost of the answer.
+// Asks a question by a kind of cost, whichever kind its word names, and leaves out the cost of the answer.
 pub(crate) fn tell<C: CostKind>(
-    asked: Asked<'_, '_, '_>,
+    question: &Question<'_, '_, RuleWord, KindWord>,
     cost: &C,
     labels: &mut [Label<C>],
     queue: &mut [QueueSlot],
     route: &mut [u16],
 ) -> Result<Found, QuestionFault>
-    ensures cases { Tells (study_of asked.entry.drawing.now asked.entry.sheet.now) (by_rule asked.entry.rule C.CostKind.places (C.CostKind.amount (C.CostKind.settings cost.now)) asked.entry.first asked.entry.last (length labels.old) (length queue.old) (length route.old)) route.old route.new result }
-    ensures labels { Leaves C.CostKind (C.CostKind.settings cost.now) (study_of asked.entry.drawing.now asked.entry.sheet.now) (by_rule asked.entry.rule C.CostKind.places (C.CostKind.amount (C.CostKind.settings cost.now)) asked.entry.first asked.entry.last (length labels.old) (length queue.old) (length route.old)) labels.old labels.new }
+    ensures cases { Tells (study_of question.now.drawing.now question.now.sheet.now) (by_rule question.now.rule.now C.CostKind.places (C.CostKind.amount (C.CostKind.settings cost.now)) question.now.first question.now.last (length labels.old) (length queue.old) (length route.old)) route.old route.new result }
+    ensures labels { Leaves C.CostKind (C.CostKind.settings cost.now) (study_of question.now.drawing.now question.now.sheet.now) (by_rule question.now.rule.now C.CostKind.places (C.CostKind.amount (C.CostKind.settings cost.now)) question.now.first question.now.last (length labels.old) (length queue.old) (length route.old)) labels.old labels.new }
 {
-    let Asked {
-        drawing,
-        sheet,
-        rule,
-        first,
-        last,
-    } = asked;
-    let question = Question {
-        drawing,
-        sheet,
-        rule: &rule,
+    let priced = Question {
+        drawing: question.drawing,
+        sheet: question.sheet,
+        rule: question.rule,
         cost,
-        first,
-        last,
+        first: question.first,
+        last: question.last,
     };
-    let answer = ask(&question, labels, queue, route)?;
-    Ok(Found {
-        charge: answer.charge,
-        length: answer.length,
-        edges: answer.edges,
-    })
+    let answer = ask(&priced, labels, queue, route)?;
+    Ok(Found::from(answer))
 }
