@@ -49,15 +49,6 @@ fn drawn(heap: Global, edges: u32, leaving: u8) -> Result<String, AllocError> {
     Ok(log)
 }
 
-// A log of so many empty lines.
-fn blank(heap: Global, lines: u32) -> Result<String, AllocError> {
-    let mut log = String::new(heap);
-    for _ in 0..lines {
-        log.push('\n')?;
-    }
-    Ok(log)
-}
-
 // A log of one edge with this length, and then one call.
 fn one_edge(heap: Global, length: u32, call: &str) -> Result<String, AllocError> {
     format!(in heap; "sectors\t20\t60\t120\nedge\t0\t1\t{length}\t0\t0\n{call}")
@@ -152,7 +143,7 @@ fn lists(rt: &HostRuntime) -> io::Result<()> {
 
 fn sizes(rt: &HostRuntime) -> io::Result<()> {
     let heap = rt.alloc();
-    let log = blank(heap, 65_000)?;
+    let log = "\n".repeat(heap, 65_000)?;
     check(
         rt,
         FULL,
@@ -161,7 +152,7 @@ fn sizes(rt: &HostRuntime) -> io::Result<()> {
         65_000,
         "refused\t12\t1\t65000\ttext",
     )?;
-    let log = blank(heap, 65_001)?;
+    let log = "\n".repeat(heap, 65_001)?;
     check(rt, FULL, "65,001 bytes", &log, 1, "refused\t13\t0\t0\ttext")?;
     check(rt, FULL, "no bytes", "", 0, "")?;
     check(
