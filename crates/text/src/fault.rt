@@ -7,7 +7,7 @@ use refusal::{Layer, Refusal};
 use turns::PlanFault;
 
 /// Why a log or one of its lines was turned down.
-#[derive(Clone, Copy)]
+#[derive(Clone, Copy, PartialEq, Eq, Debug)]
 pub enum TextFault {
     /// 12: a line is not sound; the place, from 1, of its lowest wrong field.
     Field(u32),

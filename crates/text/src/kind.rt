@@ -6,6 +6,9 @@ ghost use Rattle.text.specs.declared.fault.TextFault.TheVariants.{Field};
 
 use super::fault::TextFault;
 
+/// The place of a line's word.
+pub const FIRST: u32 = 1;
+
 /// A kind of line.
 #[derive(Clone, Copy)]
 pub enum Kind {
@@ -29,7 +32,7 @@ impl TryFrom<&[u8]> for Kind {
             b"close" => Ok(Kind::Close),
             b"open" => Ok(Kind::Open),
             b"measure" => Ok(Kind::Measure),
-            _ => Err(TextFault::Field(1)),
+            _ => Err(TextFault::Field(FIRST)),
         }
     }
 }

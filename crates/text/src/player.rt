@@ -1,5 +1,5 @@
 // Playing a log.
-ghost use Rattle.std.specs.Prelude.{◌≡◌, ℕ, ◌<◌, ◌≤◌, List, [], ◌∷◌, ◌++◌, length, replicate, IfOk, Some as Just, None as Nothing, string_bytes, MatchOption, MatchResult, OnOk};
+ghost use Rattle.std.specs.Prelude.{◌≡◌, ℕ, ◌<◌, ◌≤◌, List, [], ◌∷◌, ◌++◌, length, IfOk, Some as Just, None as Nothing, string_bytes, MatchOption, MatchResult, OnOk};
 ghost use Rattle.turns.specs.Sectors.{limits_of};
 ghost use Rattle.plan.specs.Plans.{Over, lender_of};
 ghost use Rattle.plan.specs.Studies.{begun, study_of};

@@ -7,12 +7,9 @@ ghost use Rattle.text.specs.Shapes.{fields_left};
 
 use super::cursor::Cursor;
 use super::fault::TextFault;
-use super::kind::Kind;
+use super::kind::{FIRST, Kind};
 use super::line::Line;
 use plan::{Change, NewEdge};
-
-/// The place of a line's word.
-const FIRST: u32 = 1;
 
 /// The place of the first field behind a line's word.
 const SECOND: u32 = 2;
