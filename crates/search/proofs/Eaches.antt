@@ -1,5 +1,5 @@
 -- What holds of each element of a list, after one element is written.
-use Rattle.std.proofs.Common.{◌≡◌, ℕ, ◌+◌, ◌<◌, ◌⊎◌, List, length, get_or, set, sym, subst, inl, inr, arith}
+use Rattle.std.proofs.Common.{◌≡◌, ℕ, ◌<◌, ◌⊎◌, List, length, get_or, set, sym, subst, inl, inr, arith}
 use Rattle.std.proofs.lemmas.List.{get_or-set_same, get_or-set_other, length-set}
 use Rattle.std.proofs.lemmas.Bool.{cases_eq}
 use Rattle.search.specs.Labels.{Each}
@@ -12,9 +12,6 @@ set_at P xs i y k d l here there = go (cases_eq k i)
         let h : i < length xs = omega (arith, e) in
         subst (λ j. P (get_or (set xs i y) j d)) (sym e) (subst P (sym (get_or-set_same xs i y d h)) (here e))
     go (inr e) = subst P (sym (get_or-set_other xs i k y d e)) (there e)
-
-pub each_more : {X : Type 0} (P : X → Type 0) (xs : List X) (i : ℕ) (y : X) → i < length xs → ((k : ℕ) (d : X) → k < i → P (get_or xs k d)) → P y → (k : ℕ) (d : X) → k < i + 1 → P (get_or (set xs i y) k d)
-each_more P xs i y l old new k d h = set_at P xs i y k d (omega arith) (λ _. new) (λ e. old k d (omega (arith, e)))
 
 pub each_set : {X : Type 0} (P : X → Type 0) (xs : List X) (i : ℕ) (y : X) → Each P xs → P y → Each P (set xs i y)
 each_set P xs i y old new k d h =

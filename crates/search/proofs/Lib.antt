@@ -1,6 +1,5 @@
 pub mod Adds
 pub mod Agreeing
-pub mod Asks
 pub mod Eaches
 pub mod Founds
 pub mod Marks

@@ -1,6 +1,6 @@
 -- Reading and writing labels, by what they mean.
-use Rattle.std.proofs.Common.{◌≡◌, ℕ, zero, suc, ◌+◌, ◌<◌, ◌≤◌, cond, ◌⊎◌, List, [], ◌∷◌, map, length, get_or, set, Some, None, sym, refl, ap, ◌∙◌, subst, subst₂, inl, inr, arith}
-use Rattle.std.proofs.lemmas.List.{get_or-map, map-set, get_or-set_same, get_or-set_other, get_or_past, get_or_read, length-map}
+use Rattle.std.proofs.Common.{◌≡◌, ℕ, zero, suc, ◌+◌, ◌<◌, cond, ◌⊎◌, List, [], ◌∷◌, map, length, get_or, set, Some, None, sym, refl, ap, ◌∙◌, subst, subst₂, inl, inr, arith}
+use Rattle.std.proofs.lemmas.List.{get_or-map, map-set, get_or-set_same, get_or-set_other, get_or_read, length-map}
 use Rattle.std.proofs.lemmas.Bool.{cases_eq, eq-eqb, ne_eqb}
 use Rattle.cost.specs.declared.kind.CostKind.{Ghosts as Kind}
 use Rattle.walks.specs.Labels.{Label as Mark, KeyLess, KeyAtMost}
@@ -46,9 +46,6 @@ module _ {C : Type 0} (K : Kind C) where
   label_held [] e m h = absurd (none_not_some refl h)
   label_held (x ∷ ls) zero m h = (x, refl)
   label_held (x ∷ ls) (suc e) m h = label_held ls e m h
-
-  pub label_past : (ls : List (Label C)) (e : ℕ) → length ls ≤ e → label_in K ls e ≡ None
-  label_past ls e h = let n = length-map ls (meaning K) in get_or_past (map (meaning K) ls) e None (omega (arith, n))
 
   -- what is read after a write
   pub label_wrote : (ls : List (Label C)) (f : ℕ) (x : Label C) → f < length ls → 0 < x.edges → (e : ℕ) → with_label (label_in K ls) f (plain K x) e ≡ label_in K (set ls f x) e

@@ -38,9 +38,6 @@ standing slots len at h l =
     let r : ◌≡◌ {A = ℕ} (cond (holds e (get_or (take len slots) at no_slot)) 1 0) 1 = ap (λ s. cond (holds e s) 1 0) q ∙ one_same e e refl in
     lt-ltb 0 (times slots len e) (omega (arith, p, r))
 
-pub none_waiting : (slots : List QueueSlot) (e : ℕ) → in_queue slots 0 e ≡ false
-none_waiting slots e = refl
-
 module _ (slots : List QueueSlot) (m n at : ℕ) (filled : Filled slots (m + 1) n) (h : at < m + 1) (l : m + 1 ≤ length slots) where
   before : (e : ℕ) → times slots (m + 1) e ≡ times slots m e + one_at e (edge_in slots m)
   before e = ap (count_by (holds e)) (take_more slots m no_slot (omega arith)) ∙ sum_by_push (λ s. cond (holds e s) 1 0) (take m slots) (get_or slots m no_slot)

@@ -1,7 +1,8 @@
 -- Relaxing one step keeps the lists of a search in order, and what is relaxed.
-use Rattle.std.proofs.Common.{◌≡◌, ℕ, ◌+◌, ◌<◌, ◌≤◌, true, false, eqb, ltb, ◌⊎◌, List, length, get_or, set, Some, sym, refl, ap, ◌∙◌, subst, inl, inr, arith}
+use Rattle.std.proofs.Common.{◌≡◌, ℕ, ◌+◌, ◌<◌, ◌≤◌, true, false, ◌⊎◌, List, length, get_or, set, Some, sym, refl, ap, ◌∙◌, subst, inl, inr, arith}
 use Rattle.std.proofs.lemmas.List.{get_or_default, get_or-set_same, get_or-set_other, length-set}
-use Rattle.std.proofs.lemmas.Bool.{and_parts, cases_Bool, cases_eq, eqb-true}
+use Rattle.std.proofs.lemmas.Bool.{cases_Bool, cases_eq}
+use Rattle.std.proofs.lemmas.Bool.Decides.{nat_tests}
 use Rattle.cost.specs.declared.kind.CostKind.{Ghosts as Kind}
 use Rattle.rules.specs.declared.rule.TurnRule.{Ghosts as Rule}
 use Rattle.plan.specs.Plans.{Plan, plan_of, edge_at, steps}
@@ -51,11 +52,7 @@ Measured K = (s : K.Settings) (charge long : ℕ) → length (K.amount s charge 
 
 -- a step leads to an edge that starts where the other ends
 step_starts : (p : Plan) (e f : ℕ) → steps p e f ≡ true → (edge_at p f).start ≡ (edge_at p e).end
-step_starts p e f h =
-    let a = and_parts (ltb e (length p.edges)) _ h in
-    let b = and_parts (ltb f (length p.edges)) _ a.1 in
-    let c = and_parts (eqb (edge_at p f).start (edge_at p e).end) _ b.1 in
-    eqb-true (edge_at p f).start (edge_at p e).end c.0
+step_starts p e f h = grind (arith, nat_tests)
 
 module _ {R C : Type 0} (T : Rule R) (K : Kind C) (measured : Measured K) (g : Question R C) (ls : List (Label C)) (slots : List QueueSlot) (len : ℕ) (w : Working g ls slots len) (x : Label C) (from to : ℕ) (drawn : to < length ls) where
   even : Even (net_of T K g)

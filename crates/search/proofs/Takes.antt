@@ -67,9 +67,6 @@ module _ {R C : Type 0} (T : Rule R) (K : Kind C) (g : Question R C) (ls : List 
   pub working_left : Working g ls (moved_up slots (len - 1) at) (len - 1)
   working_left = working_taken T K g ls slots (len - 1) at w' within' there'
 
-  pub drawn_left : edge_in slots at < length ls
-  drawn_left = drawn_taken T K g ls slots (len - 1) at w' within' there'
-
   pub relaxing_left : (x : Label C) → x ≡ get_or ls (edge_in slots at) x → Least K ls slots len at → (a n : ℕ) → Inv (net_of T K g) a (label_in K ls) (in_queue slots len) n → Relaxing (net_of T K g) a (label_in K ls) (in_queue (moved_up slots (len - 1) at) (len - 1)) (n + 1) (edge_in slots at) (plain K x) 0
   relaxing_left x reads least a n i =
       relaxing_taken T K g ls slots (len - 1) at w' within' there' x reads (subst (λ m. Least K ls slots m at) one_less least) a n
