@@ -22,7 +22,7 @@ fn show_turn(rt: &HostRuntime, arriving: u32, leaving: u32, want: &str) -> io::R
     };
     match turn(&limits, arriving, leaving) {
         Ok((angle, class)) => {
-            let code = class.code();
+            let code = u8::from(class);
             println!(rt; "turn {arriving} {leaving}: should be {want}; came {angle} {code}")
         }
         Err(fault) => {

@@ -21,22 +21,14 @@ impl Drawing<'_> {
         ensures value { result ≡ step_found (plan_of self.now) from to }
     {
         let edges = self.edges();
-        let (e, f) = (from as usize, to as usize);
-        if e >= edges.len() || f >= edges.len() {
-            return None;
-        }
-        let before = edges[e];
-        let next = edges[f];
+        let before = edges.get(from as usize)?;
+        let next = edges.get(to as usize)?;
         if next.start != before.end || next.end == before.start {
             return None;
         }
-        match turn(
-            self.limits(),
-            u32::from(before.arriving),
-            u32::from(next.leaving),
-        ) {
-            Ok((_, class)) => Some(class),
-            Err(_) => None,
-        }
+        let arriving = u32::from(before.arriving);
+        let leaving = u32::from(next.leaving);
+        let (_, class) = turn(self.limits(), arriving, leaving).ok()?;
+        Some(class)
     }
 }

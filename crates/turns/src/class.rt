@@ -14,11 +14,11 @@ pub enum Class {
     SharpLeft = 6,
 }
 
-impl Class {
-    /// The number of the class: `Class::Left` is 5.
-    pub fn code(self) -> u8
-        ensures value { result ≡ class_code self }
-    {
-        self as u8
+/// The number of the class: `Class::Left` is 5.
+impl From<Class> for u8 {
+    ghost from_gives = { λ class code. code ≡ class_code class };
+
+    fn from(class: Class) -> u8 {
+        class as u8
     }
 }

@@ -16,7 +16,7 @@ pub fn turn_class(arriving: u32, leaving: u32, s: u32, b: u32, h: u32) -> u8
         return 255;
     };
     match turn(&limits, arriving, leaving) {
-        Ok((_, class)) => class.code(),
+        Ok((_, class)) => u8::from(class),
         Err(_) => 255,
     }
 }
