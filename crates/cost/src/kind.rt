@@ -37,6 +37,8 @@ pub trait CostKind: Copy {
         ensures value { result ≡ additions self.now };
 
     /// The order of the two rows, at the first place where they differ.
+    ///
+    /// It is no `Ord`: costs whose stored numbers differ may mean the same row, and rows of other settings are compared too.
     fn compare(&self, other: &Self) -> Ordering
         ensures value { Orders result (row self.now) (row other.now) };
 

@@ -6,6 +6,7 @@ use plan::Change;
 pub enum Call<R, C> {
     /// Draw or measure an edge, or close or open one.
     Change(Change),
+    // No `Question`: that is asked over a drawing, and holds its rule and its cost by reference; a call in a list owns them.
     /// Ask for the simplest walk between two edges, by a turn rule and a cost of which only the settings are read.
     Ask {
         first: u32,

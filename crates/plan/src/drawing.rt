@@ -8,6 +8,9 @@ use turns::Sectors;
 
 /// A drawing over a lent list of rows. The first rows are the drawn edges, numbered from 0; the others are spare.
 ///
+/// The rows are lent by the caller, and nothing here takes memory: so it is a list and a count, and no `Vec`. Which list is lent (`lender_of`) stands in the
+/// contract of each call that changes the drawing, since a type says nothing of two moments.
+///
 /// Every drawn row is within its bounds, no two drawn edges share both start and end, at most 16 leave one junction, and at most 1,024 are drawn.
 pub struct Drawing<'a> {
     limits: Sectors,

@@ -11,6 +11,7 @@ use turns::Class;
 pub(crate) fn other_steps(drawing: &Drawing<'_>, from: u32, to: u32, class: Class) -> u32
     ensures value { result ≡ below (other (plan_of drawing.now) from class to) (length (plan_of drawing.now).edges) }
 {
+    // A loop and no chain: the rows are counted with their index, in the form that this rule has in the project.
     let mut count = 0;
     for (at, _row) in drawing.edges().iter().enumerate() {
         count += u32::from(is_other(drawing, from, to, class, at as u32));

@@ -39,6 +39,7 @@ impl<'a> Cursor<'a> {
         ensures cases { MatchResult result (λ ns. Numbers N (fields_left self.old) ns) (AtField (MissesFrom first (replicate N Number) (fields_left self.old))) }
     {
         let mut found = [0; N];
+        // The place is counted beside the loop, since it is told behind it too.
         let mut place = first;
         for n in found.iter_mut() {
             *n = self.number(place)?;

@@ -57,6 +57,7 @@ pub fn play(
 fn play_opening(lines: &mut Lines<'_>, text: &mut String) -> Result<Option<Sectors>, AllocError>
     ensures cases { (rows size : ℕ) → IfOk result (λ o. MatchOption o (Ends rows size (moment Nothing lines.old (string_bytes text.old)) Nothing (string_bytes text.new)) (λ l. Went rows size (moment Nothing lines.old (string_bytes text.old)) (moment (Just (begun (limits_of l) rows size)) lines.new (string_bytes text.new)))) }
 {
+    // No `for`: it would take the lines, and those behind the one that begins the drawing are still to be played.
     while let Some((bytes, number)) = lines.next() {
         match begin_line(bytes) {
             Ok(limits) => {

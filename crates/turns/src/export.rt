@@ -12,6 +12,7 @@ use crate::turning::turn;
 pub fn turn_class(arriving: u32, leaving: u32, s: u32, b: u32, h: u32) -> u8
     ensures value { result ≡ code_answer arriving leaving s b h }
 {
+    // 255 stands for every refusal, since C gets one number and no `Result`.
     let Ok(limits) = Sectors::new(s, b, h) else {
         return 255;
     };
