@@ -22,7 +22,7 @@ use Rattle.search.specs.declared.question.Question.{Question}
 use Rattle.search.specs.declared.frontier.Frontier.{Frontier}
 use Rattle.search.specs.declared.label.Label.{Label}
 use Rattle.search.specs.declared.queue.QueueSlot.{QueueSlot}
-use Rattle.search.proofs.Eaches.{each_set}
+use Rattle.search.proofs.Eaches.{each_set, set_at}
 use Rattle.search.proofs.Marks.{label_held, label_is, label_read, label_wrote, meaning_none, meaning_some}
 use Rattle.search.proofs.Slots.{brought_in, filled_more, has_room, put_in}
 
@@ -71,9 +71,6 @@ module _ {R C : Type 0} (T : Rule R) (K : Kind C) (measured : Measured K) (g : Q
 
   -- an edge gets its first label and enters the queue
   module _ (new : Label C) (grown : 0 < new.edges) where
-    written : (e : ℕ) (d : Label C) → e ≡ to → get_or (set ls to new) e d ≡ new
-    written e d q = ap (λ j. get_or (set ls to new) j d) q ∙ get_or-set_same ls to new d drawn
-
     module _ (apart : in_queue slots len to ≡ false) where
       pub room_entered : len < length slots
       room_entered = omega (arith, has_room slots len (drawn_in g) to w.filled apart drawn_here, w.filled.room)
@@ -83,14 +80,10 @@ module _ {R C : Type 0} (T : Rule R) (K : Kind C) (measured : Measured K) (g : Q
           record {
             size = length-set ls to new ∙ w.size;
             filled = filled_more slots len (drawn_in g) to w.filled apart drawn_here;
-            waiting = λ e d h q. go e d (omega (arith, length-set ls to new)) q (cases_eq e to);
+            waiting = λ e d h q.
+            let l : e < length ls = omega (arith, h, length-set ls to new) in
+            set_at (λ x. 0 < x.edges) ls to new e d l (λ _. grown) (λ p. w.waiting e d l (sym (flag_other (in_queue slots len) to true e p) ∙ brought_in slots len (drawn_in g) to w.filled apart drawn_here e ∙ q));
           }
-        where
-          go : (e : ℕ) (d : Label C) → e < length ls → in_queue (put_in slots len to) (len + 1) e ≡ true → (e ≡ to) ⊎ (e ≡ to → ⊥) → 0 < (get_or (set ls to new) e d).edges
-          go e d h q (inl p) = subst (λ l. 0 < l.edges) (sym (written e d p)) grown
-          go e d h q (inr p) =
-              let was = sym (flag_other (in_queue slots len) to true e p) ∙ brought_in slots len (drawn_in g) to w.filled apart drawn_here e ∙ q in
-              subst (λ l. 0 < l.edges) (sym (get_or-set_other ls to e new d p)) (w.waiting e d h was)
 
       pub entered_queue : (e : ℕ) → with_flag (in_queue slots len) to true e ≡ in_queue (put_in slots len to) (len + 1) e
       entered_queue = brought_in slots len (drawn_in g) to w.filled apart drawn_here
@@ -101,12 +94,10 @@ module _ {R C : Type 0} (T : Rule R) (K : Kind C) (measured : Measured K) (g : Q
         record {
           size = length-set ls to new ∙ w.size;
           filled = w.filled;
-          waiting = λ e d h q. go e d (omega (arith, length-set ls to new)) q (cases_eq e to);
+          waiting = λ e d h q.
+          let l : e < length ls = omega (arith, h, length-set ls to new) in
+          set_at (λ x. 0 < x.edges) ls to new e d l (λ _. grown) (λ _. w.waiting e d l q);
         }
-      where
-        go : (e : ℕ) (d : Label C) → e < length ls → in_queue slots len e ≡ true → (e ≡ to) ⊎ (e ≡ to → ⊥) → 0 < (get_or (set ls to new) e d).edges
-        go e d h q (inl p) = subst (λ l. 0 < l.edges) (sym (written e d p)) grown
-        go e d h q (inr p) = subst (λ l. 0 < l.edges) (sym (get_or-set_other ls to e new d p)) (w.waiting e d h q)
 
   module _ (old new : Label C) (held : old ≡ get_or ls to old) (grown : 0 < new.edges) where
     -- an edge that had no walk
