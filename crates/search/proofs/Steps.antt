@@ -1,7 +1,7 @@
 -- Relaxing one step keeps the lists of a search in order, and what is relaxed.
 use Rattle.std.proofs.Common.{◌≡◌, ℕ, ◌+◌, ◌<◌, ◌≤◌, true, false, ◌⊎◌, List, length, get_or, set, Some, sym, refl, ap, ◌∙◌, subst, inl, inr, arith}
-use Rattle.std.proofs.lemmas.List.{get_or_default, get_or-set_same, get_or-set_other, length-set}
-use Rattle.std.proofs.lemmas.Bool.{cases_Bool, cases_eq}
+use Rattle.std.proofs.lemmas.List.{get_or_default, length-set}
+use Rattle.std.proofs.lemmas.Bool.{cases_Bool}
 use Rattle.std.proofs.lemmas.Bool.Decides.{nat_tests}
 use Rattle.cost.specs.declared.kind.CostKind.{Ghosts as Kind}
 use Rattle.rules.specs.declared.rule.TurnRule.{Ghosts as Rule}
@@ -81,8 +81,8 @@ module _ {R C : Type 0} (T : Rule R) (K : Kind C) (measured : Measured K) (g : Q
             size = length-set ls to new ∙ w.size;
             filled = filled_more slots len (drawn_in g) to w.filled apart drawn_here;
             waiting = λ e d h q.
-            let l : e < length ls = omega (arith, h, length-set ls to new) in
-            set_at (λ x. 0 < x.edges) ls to new e d l (λ _. grown) (λ p. w.waiting e d l (sym (flag_other (in_queue slots len) to true e p) ∙ brought_in slots len (drawn_in g) to w.filled apart drawn_here e ∙ q));
+                let l : e < length ls = omega (arith, h, length-set ls to new) in
+                set_at (λ x. 0 < x.edges) ls to new e d l (λ _. grown) (λ p. w.waiting e d l (sym (flag_other (in_queue slots len) to true e p) ∙ brought_in slots len (drawn_in g) to w.filled apart drawn_here e ∙ q));
           }
 
       pub entered_queue : (e : ℕ) → with_flag (in_queue slots len) to true e ≡ in_queue (put_in slots len to) (len + 1) e
@@ -95,8 +95,8 @@ module _ {R C : Type 0} (T : Rule R) (K : Kind C) (measured : Measured K) (g : Q
           size = length-set ls to new ∙ w.size;
           filled = w.filled;
           waiting = λ e d h q.
-          let l : e < length ls = omega (arith, h, length-set ls to new) in
-          set_at (λ x. 0 < x.edges) ls to new e d l (λ _. grown) (λ _. w.waiting e d l q);
+              let l : e < length ls = omega (arith, h, length-set ls to new) in
+              set_at (λ x. 0 < x.edges) ls to new e d l (λ _. grown) (λ _. w.waiting e d l q);
         }
 
   module _ (old new : Label C) (held : old ≡ get_or ls to old) (grown : 0 < new.edges) where

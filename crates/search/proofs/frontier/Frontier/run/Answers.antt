@@ -14,8 +14,7 @@ loop-self-preserved g c =
     let stays = c.loop-self.invariant.0 in
     (record { ground = c.settle.ensures.stays.ground ∙ stays.ground; lender = c.settle.ensures.stays.lender ∙ stays.lender }, (i.0 + 1, c.settle.ensures.settles (asked_of c.args.self.now).first i.0 i.1))
 
-pub returns : goal.returns
-returns g c =
+pub returns-clause-explored : goal.returns-clause-explored
+returns-clause-explored g c =
     let i = c.loop-self.invariant.1 in
-    let r = done g.R.TurnRule g.C.CostKind c.args.self.now c.loop-self.self (asked_of c.args.self.now).first i.0 c.loop-self.invariant.0 i.1 (omega arith) in
-    record { stays = c.loop-self.invariant.0; fine = r.fine; short = r.short; certified = r.certified }
+    done g.R.TurnRule g.C.CostKind c.args.self.now c.loop-self.self i.0 c.loop-self.invariant.0 i.1 (omega arith)
