@@ -17,7 +17,7 @@ use Rattle.walks.proofs.Relax.{relax_better, relax_full, relax_keep, relax_kept,
 use Rattle.search.specs.Grounds.{drawn_in, net_of, settings_of}
 use Rattle.search.specs.Labels.{Each, Fine, label_in, plain}
 use Rattle.search.specs.Queues.{Filled, in_queue}
-use Rattle.search.specs.Stages.{Offered, Turning, asked_of, labelling, waiting}
+use Rattle.search.specs.Stages.{Offered, Stays, Turning, asked_of, labelling, waiting}
 use Rattle.search.specs.declared.question.Question.{Question}
 use Rattle.search.specs.declared.frontier.Frontier.{Frontier}
 use Rattle.search.specs.declared.label.Label.{Label}
@@ -46,6 +46,9 @@ abbrev pub Kept : {R C : Type 0} → Rule R → Kind C → Frontier R C → List
 Kept T K s ls' slots' len' e k j =
     (a n : ℕ) (x : Mark) → Turning T K s a n e x k
     → Each (Fine K (settings_of K (asked_of s))) ls' × Relaxing (net_of T K (asked_of s)) a (label_in K ls') (in_queue slots' len') n e x j
+
+pub stays_both : {R C : Type 0} {s s' s'' : Frontier R C} → Stays s s' → Stays s' s'' → Stays s s''
+stays_both a b = record { ground = b.ground ∙ a.ground; lender = b.lender ∙ a.lender }
 
 abbrev pub Measured : {C : Type 0} → Kind C → Type 0
 Measured K = (s : K.Settings) (charge long : ℕ) → length (K.amount s charge long) ≡ K.places

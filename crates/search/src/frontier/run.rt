@@ -57,14 +57,15 @@ impl<R: TurnRule, C: CostKind> Ground<'_, '_, R, C> {
 impl<R: TurnRule, C: CostKind> Frontier<'_, '_, R, C> {
     ghost use Rattle.search.specs.Stages.{Explored, Searching, Stays, asked_of};
 
-    // Runs the search to its end, when no edge waits.
+    // The loop of the search: edges leave the queue in the order of their labels, each once, and their steps are relaxed, until no edge waits.
     fn run(&mut self)
         requires begun { Searching R.TurnRule C.CostKind self.old (asked_of self.old).first 0 }
         ensures stays { Stays self.old self.new }
         ensures explored { Explored R.TurnRule C.CostKind (asked_of self.old) self.new.labels.now }
     {
         while self.len > 0 {
-            self.settle();
+            let edge = self.take_least();
+            self.relax_all(edge);
         }
     }
 }

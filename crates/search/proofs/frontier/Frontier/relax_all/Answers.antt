@@ -4,7 +4,7 @@ use Rattle.plan.specs.declared.row.EdgeRow.{EdgeRow}
 use Rattle.search.specs.Grounds.{drawn_in}
 use Rattle.search.specs.Stages.{Keeps, Stays, asked_of}
 use Rattle.search.specs.declared.frontier.Frontier.{Frontier}
-use Rattle.search.proofs.Steps.{kept_apart}
+use Rattle.search.proofs.Steps.{kept_apart, stays_both}
 use Rattle.search.proofs.frontier.Frontier.relax_all.Goals as goal
 use Rattle.search.proofs.frontier.Frontier.relax_all.Goals.{then-row-end, else-row-end}
 
@@ -17,7 +17,7 @@ loop-to-preserved g c =
     let count : length c.edges-edges.result.now ≡ drawn_in (asked_of s) = ap length rows in
     elim c.if-row-end.branch [
       | then-row-end w ↦ subst G (sym w.self-is) (
-        record { ground = w.relax.ensures.stays.ground ∙ stays.ground; lender = w.relax.ensures.stays.lender ∙ stays.lender },
+        stays_both stays w.relax.ensures.stays,
         λ a n x t. w.relax.ensures.keeps a n x (c.loop-to.invariant.1 a n x t),
       )
       | else-row-end w ↦ subst G (sym w.self-is) (
