@@ -1,7 +1,7 @@
 -- Taking an edge out of the queue, and putting one in.
-use Rattle.std.proofs.Common.{◌≡◌, ℕ, suc, ◌+◌, ◌<◌, ◌≤◌, Bool, true, false, cond, eqb, ltb, ◌⊎◌, List, [], ◌∷◌, length, get_or, take, set, count_by, sym, refl, ap, ◌∙◌, subst, inl, inr, arith}
+use Rattle.std.proofs.Common.{◌≡◌, ℕ, suc, ◌+◌, ◌<◌, ◌≤◌, Bool, true, false, cond, eqb, ltb, ◌⊎◌, List, [], ◌∷◌, length, get_or, take, set, count_by, sym, refl, ap, ◌∙◌, inl, inr, arith}
 use lib.Seq.{take-set-lt}
-use Rattle.std.proofs.lemmas.List.{take_more, take_more_set, take-set, get_or-take, get_or-set_same, get_or-set_other, length-set, length-take-le}
+use Rattle.std.proofs.lemmas.List.{take_more, take_more_set, take-set, get_or-take, length-set, length-take-le}
 use Rattle.std.proofs.lemmas.List.Sums.{sum_by-cons, sum_by_push, sum_by-set, get_or-le-sum_by}
 use Rattle.std.proofs.lemmas.Bool.{cases_Bool, cases_eq, cases_lt, eq-eqb, eqb-true, ne_eqb, lt-ltb, le-ltb, ltb-true, ltb-false}
 use Rattle.walks.specs.Loop.{tally, with_flag}
@@ -9,6 +9,7 @@ use Rattle.walks.proofs.Loop.{flag_same, flag_other}
 use Rattle.walks.proofs.Tally.{tally_bound, tally_same, tally_more, tally_short}
 use Rattle.search.specs.Queues.{Filled, edge_in, holds, in_queue, no_slot, times}
 use Rattle.search.specs.declared.queue.QueueSlot.{QueueSlot}
+use Rattle.search.proofs.Eaches.{set_at}
 
 -- the slots after that at m was copied to the place `at`
 abbrev pub moved_up : List QueueSlot → ℕ → ℕ → List QueueSlot
@@ -87,14 +88,7 @@ module _ (slots : List QueueSlot) (m n at : ℕ) (filled : Filled slots (m + 1) 
       less = tally_more (with_flag (in_queue slots (m + 1)) (edge_in slots at) false) (in_queue slots (m + 1)) n (edge_in slots at) (filled.drawn at h) (flag_same (in_queue slots (m + 1)) (edge_in slots at) false) (standing slots (m + 1) at h l) (λ k q. flag_other (in_queue slots (m + 1)) (edge_in slots at) false k q)
 
       drawn_less : (k : ℕ) → k < m → edge_in (moved_up slots m at) k < n
-      drawn_less k q = go (cases_eq k at)
-        where
-          go : (k ≡ at) ⊎ (k ≡ at → ⊥) → edge_in (moved_up slots m at) k < n
-          go (inl e) =
-              let i : at < length slots = omega arith in
-              subst (λ j. edge_in (moved_up slots m at) j < n) (sym e)
-              (subst (λ s. s.edge < n) (sym (get_or-set_same slots at (get_or slots m no_slot) no_slot i)) (filled.drawn m (omega arith)))
-          go (inr e) = subst (λ s. s.edge < n) (sym (get_or-set_other slots at k (get_or slots m no_slot) no_slot e)) (filled.drawn k (omega arith))
+      drawn_less k q = set_at (λ s. s.edge < n) slots at (get_or slots m no_slot) k no_slot (omega arith) (λ _. filled.drawn m (omega arith)) (λ _. filled.drawn k (omega arith))
 
 module _ (slots : List QueueSlot) (len n f : ℕ) (filled : Filled slots len n) (new : in_queue slots len f ≡ false) (drawn : f < n) where
   pub has_room : len < n
@@ -138,14 +132,7 @@ module _ (slots : List QueueSlot) (len n f : ℕ) (filled : Filled slots len n) 
       once_more e (inr q) = omega (arith, grown e, one_other e f (λ z. q (sym z)), filled.once e)
 
       drawn_more : (k : ℕ) → k < len + 1 → edge_in (put_in slots len f) k < n
-      drawn_more k q = go (cases_eq k len)
-        where
-          go : (k ≡ len) ⊎ (k ≡ len → ⊥) → edge_in (put_in slots len f) k < n
-          go (inl e) =
-              let i : len < length slots = omega (arith, has_room, filled.room) in
-              subst (λ j. edge_in (put_in slots len f) j < n) (sym e)
-              (subst (λ s. s.edge < n) (sym (get_or-set_same slots len (record { edge = f }) no_slot i)) drawn)
-          go (inr e) = subst (λ s. s.edge < n) (sym (get_or-set_other slots len k (record { edge = f }) no_slot e)) (filled.drawn k (omega (arith, e)))
+      drawn_more k q = set_at (λ s. s.edge < n) slots len (record { edge = f }) k no_slot (omega (arith, q, has_room, filled.room)) (λ _. drawn) (λ e. filled.drawn k (omega (arith, e, q)))
 
 -- what is counted is found
 counted_found : {X : Type 0} (p : X → Bool) (xs : List X) (d : X) → 0 < count_by p xs → (k : ℕ) × (k < length xs) × (p (get_or xs k d) ≡ true)

@@ -7,11 +7,12 @@ use Rattle.walks.specs.Labels.{Certified, first_label}
 use Rattle.walks.specs.Loop.{Inv, settled, tally, with_label}
 use Rattle.walks.proofs.Back.{label_from_parts}
 use Rattle.walks.proofs.Loop.{certified_same, inv_finish, inv_same, inv_start, label_edges, settled_number, shut_certified}
+use Rattle.walks.proofs.Options.{none_not_some}
 use Rattle.walks.proofs.Tally.{tally_none}
 use Rattle.search.specs.Grounds.{drawn_in, net_of, settings_of}
-use Rattle.search.specs.Labels.{Blank, Each, Fine, Short, label_in, plain}
+use Rattle.search.specs.Labels.{Blank, Each, Fine, label_in, plain}
 use Rattle.search.specs.Queues.{Filled, in_queue}
-use Rattle.search.specs.Stages.{Opens, Searching, Stays, asked_of, labelling, waiting}
+use Rattle.search.specs.Stages.{Explored, Opens, Searching, Stays, asked_of, labelling, waiting}
 use Rattle.search.specs.declared.question.Question.{Question}
 use Rattle.search.specs.declared.frontier.Frontier.{Frontier}
 use Rattle.search.specs.declared.label.Label.{Label}
@@ -36,10 +37,17 @@ module _ {C : Type 0} (K : Kind C) (s : K.Settings) where
 
 module _ {R C : Type 0} (T : Rule R) (K : Kind C) (measured : Measured K) (g : Question R C) (ls : List (Label C)) (slots : List QueueSlot) (size : length ls ≡ drawn_in g) (room : drawn_in g ≤ length slots) (drawn : g.first < length ls) (blank : Each (Blank K (settings_of K g)) ls) where
   -- a shut first edge
-  pub certified_shut : (get_or g.sheet.now g.first 0 ≡ 0 → ⊥) → Certified (net_of T K g) g.first (label_in K ls)
+  certified_shut : (get_or g.sheet.now g.first 0 ≡ 0 → ⊥) → Certified (net_of T K g) g.first (label_in K ls)
   certified_shut closed =
       certified_same (λ e. sym (blank_none K (settings_of K g) ls blank e))
       (shut_certified (net_of T K g) g.first (λ u. false≢true (sym (ap (λ b. not (not b)) (ne_eqb (get_or g.sheet.now g.first 0) 0 closed)) ∙ u.1)))
+
+  pub explored_shut : (get_or g.sheet.now g.first 0 ≡ 0 → ⊥) → Explored T K g ls
+  explored_shut closed = record {
+    fine = blank_each K (settings_of K g) ls blank;
+    short = λ e x h. absurd (none_not_some (blank_none K (settings_of K g) ls blank e) h);
+    certified = certified_shut closed;
+  }
 
   filled_none : Filled slots 0 (drawn_in g)
   filled_none =
@@ -92,13 +100,9 @@ fewer_left T K s s' a n stays i j =
     omega (arith, ap (λ q. drawn_in q.now.question.now) stays.ground, i.inv.running.counted, j.inv.running.counted, settled_number j.inv.running)
 
 -- an empty queue ends the search
-pub record Done {R C : Type 0} (T : Rule R) (K : Kind C) (q : Question R C) (ls : List (Label C)) (a : ℕ) : Type 0 where
-  pub fine : Each (Fine K (settings_of K q)) ls
-  pub short : Short K ls (drawn_in q)
-  pub certified : Certified (net_of T K q) a (label_in K ls)
-
-pub done : {R C : Type 0} (T : Rule R) (K : Kind C) (s s' : Frontier R C) (a n : ℕ) → Stays s s' → Searching T K s' a n → s'.len ≤ 0 → Done T K (asked_of s) s'.labels.now a
-done T K s s' a n stays i none_left =
+pub done : {R C : Type 0} (T : Rule R) (K : Kind C) (s s' : Frontier R C) (n : ℕ) → Stays s s' → Searching T K s' (asked_of s).first n → s'.len ≤ 0 → Explored T K (asked_of s) s'.labels.now
+done T K s s' n stays i none_left =
     let e : s'.len ≡ 0 = omega arith in
-    subst (λ q. Done T K q s'.labels.now a) (ap (λ r. r.now.question.now) stays.ground)
-    (record { fine = i.fine; short = label_edges i.inv.running; certified = inv_finish i.inv (λ f. ap (λ m. in_queue s'.queue.now m f) e) })
+    let q = ap (λ r. r.now.question.now) stays.ground in
+    subst (λ q. Explored T K q s'.labels.now) q
+    (record { fine = i.fine; short = label_edges i.inv.running; certified = subst (λ a. Certified (net_of T K (asked_of s')) a (labelling K s')) (sym (ap (λ z. z.first) q)) (inv_finish i.inv (λ f. ap (λ m. in_queue s'.queue.now m f) e)) })

@@ -1,7 +1,7 @@
 -- Relaxing one step keeps the lists of a search in order, and what is relaxed.
 use Rattle.std.proofs.Common.{◌≡◌, ℕ, ◌+◌, ◌<◌, ◌≤◌, true, false, ◌⊎◌, List, length, get_or, set, Some, sym, refl, ap, ◌∙◌, subst, inl, inr, arith}
-use Rattle.std.proofs.lemmas.List.{get_or_default, get_or-set_same, get_or-set_other, length-set}
-use Rattle.std.proofs.lemmas.Bool.{cases_Bool, cases_eq}
+use Rattle.std.proofs.lemmas.List.{get_or_default, length-set}
+use Rattle.std.proofs.lemmas.Bool.{cases_Bool}
 use Rattle.std.proofs.lemmas.Bool.Decides.{nat_tests}
 use Rattle.cost.specs.declared.kind.CostKind.{Ghosts as Kind}
 use Rattle.rules.specs.declared.rule.TurnRule.{Ghosts as Rule}
@@ -17,12 +17,12 @@ use Rattle.walks.proofs.Relax.{relax_better, relax_full, relax_keep, relax_kept,
 use Rattle.search.specs.Grounds.{drawn_in, net_of, settings_of}
 use Rattle.search.specs.Labels.{Each, Fine, label_in, plain}
 use Rattle.search.specs.Queues.{Filled, in_queue}
-use Rattle.search.specs.Stages.{Offered, asked_of}
+use Rattle.search.specs.Stages.{Offered, Stays, Turning, asked_of, labelling, waiting}
 use Rattle.search.specs.declared.question.Question.{Question}
 use Rattle.search.specs.declared.frontier.Frontier.{Frontier}
 use Rattle.search.specs.declared.label.Label.{Label}
 use Rattle.search.specs.declared.queue.QueueSlot.{QueueSlot}
-use Rattle.search.proofs.Eaches.{each_set}
+use Rattle.search.proofs.Eaches.{each_set, set_at}
 use Rattle.search.proofs.Marks.{label_held, label_is, label_read, label_wrote, meaning_none, meaning_some}
 use Rattle.search.proofs.Slots.{brought_in, filled_more, has_room, put_in}
 
@@ -41,11 +41,14 @@ Relaxes T K g ls slots len ls' slots' len' x e k j =
     (a n : ℕ) → Relaxing (net_of T K g) a (label_in K ls) (in_queue slots len) n e x k
     → Relaxing (net_of T K g) a (label_in K ls') (in_queue slots' len') n e x j
 
--- the same for the label that is read, with every label Fine
-abbrev pub Kept : {R C : Type 0} → Rule R → Kind C → Question R C → List (Label C) → List QueueSlot → ℕ → List (Label C) → List QueueSlot → ℕ → ℕ → ℕ → ℕ → Type 0
-Kept T K g ls slots len ls' slots' len' e k j =
-    (a n : ℕ) (x : Mark) → Each (Fine K (settings_of K g)) ls → Relaxing (net_of T K g) a (label_in K ls) (in_queue slots len) n e x k
-    → Each (Fine K (settings_of K g)) ls' × Relaxing (net_of T K g) a (label_in K ls') (in_queue slots' len') n e x j
+-- the same in a turn, for the label that is read
+abbrev pub Kept : {R C : Type 0} → Rule R → Kind C → Frontier R C → List (Label C) → List QueueSlot → ℕ → ℕ → ℕ → ℕ → Type 0
+Kept T K s ls' slots' len' e k j =
+    (a n : ℕ) (x : Mark) → Turning T K s a n e x k
+    → Each (Fine K (settings_of K (asked_of s))) ls' × Relaxing (net_of T K (asked_of s)) a (label_in K ls') (in_queue slots' len') n e x j
+
+pub stays_both : {R C : Type 0} {s s' s'' : Frontier R C} → Stays s s' → Stays s' s'' → Stays s s''
+stays_both a b = record { ground = b.ground ∙ a.ground; lender = b.lender ∙ a.lender }
 
 abbrev pub Measured : {C : Type 0} → Kind C → Type 0
 Measured K = (s : K.Settings) (charge long : ℕ) → length (K.amount s charge long) ≡ K.places
@@ -71,9 +74,6 @@ module _ {R C : Type 0} (T : Rule R) (K : Kind C) (measured : Measured K) (g : Q
 
   -- an edge gets its first label and enters the queue
   module _ (new : Label C) (grown : 0 < new.edges) where
-    written : (e : ℕ) (d : Label C) → e ≡ to → get_or (set ls to new) e d ≡ new
-    written e d q = ap (λ j. get_or (set ls to new) j d) q ∙ get_or-set_same ls to new d drawn
-
     module _ (apart : in_queue slots len to ≡ false) where
       pub room_entered : len < length slots
       room_entered = omega (arith, has_room slots len (drawn_in g) to w.filled apart drawn_here, w.filled.room)
@@ -83,14 +83,10 @@ module _ {R C : Type 0} (T : Rule R) (K : Kind C) (measured : Measured K) (g : Q
           record {
             size = length-set ls to new ∙ w.size;
             filled = filled_more slots len (drawn_in g) to w.filled apart drawn_here;
-            waiting = λ e d h q. go e d (omega (arith, length-set ls to new)) q (cases_eq e to);
+            waiting = λ e d h q.
+                let l : e < length ls = omega (arith, h, length-set ls to new) in
+                set_at (λ x. 0 < x.edges) ls to new e d l (λ _. grown) (λ p. w.waiting e d l (sym (flag_other (in_queue slots len) to true e p) ∙ brought_in slots len (drawn_in g) to w.filled apart drawn_here e ∙ q));
           }
-        where
-          go : (e : ℕ) (d : Label C) → e < length ls → in_queue (put_in slots len to) (len + 1) e ≡ true → (e ≡ to) ⊎ (e ≡ to → ⊥) → 0 < (get_or (set ls to new) e d).edges
-          go e d h q (inl p) = subst (λ l. 0 < l.edges) (sym (written e d p)) grown
-          go e d h q (inr p) =
-              let was = sym (flag_other (in_queue slots len) to true e p) ∙ brought_in slots len (drawn_in g) to w.filled apart drawn_here e ∙ q in
-              subst (λ l. 0 < l.edges) (sym (get_or-set_other ls to e new d p)) (w.waiting e d h was)
 
       pub entered_queue : (e : ℕ) → with_flag (in_queue slots len) to true e ≡ in_queue (put_in slots len to) (len + 1) e
       entered_queue = brought_in slots len (drawn_in g) to w.filled apart drawn_here
@@ -101,12 +97,10 @@ module _ {R C : Type 0} (T : Rule R) (K : Kind C) (measured : Measured K) (g : Q
         record {
           size = length-set ls to new ∙ w.size;
           filled = w.filled;
-          waiting = λ e d h q. go e d (omega (arith, length-set ls to new)) q (cases_eq e to);
+          waiting = λ e d h q.
+              let l : e < length ls = omega (arith, h, length-set ls to new) in
+              set_at (λ x. 0 < x.edges) ls to new e d l (λ _. grown) (λ _. w.waiting e d l q);
         }
-      where
-        go : (e : ℕ) (d : Label C) → e < length ls → in_queue slots len e ≡ true → (e ≡ to) ⊎ (e ≡ to → ⊥) → 0 < (get_or (set ls to new) e d).edges
-        go e d h q (inl p) = subst (λ l. 0 < l.edges) (sym (written e d p)) grown
-        go e d h q (inr p) = subst (λ l. 0 < l.edges) (sym (get_or-set_other ls to e new d p)) (w.waiting e d h q)
 
   module _ (old new : Label C) (held : old ≡ get_or ls to old) (grown : 0 < new.edges) where
     -- an edge that had no walk
@@ -159,55 +153,61 @@ module _ {R C : Type 0} (T : Rule R) (K : Kind C) (measured : Measured K) (g : Q
                   let z = less_at_most _ (plain K old) _ less b in
                   absurd (label_less_asym _ _ z z)
 
--- the same, where the labels are read from the list
-module _ {R C : Type 0} (T : Rule R) (K : Kind C) (measured : Measured K) (g : Question R C) (ls : List (Label C)) (slots : List QueueSlot) (len : ℕ) (w : Working g ls slots len) (from to : ℕ) (here : from < length ls) (drawn : to < length ls) (p : Label C) where
+-- the same in a search under way, where the labels are read from the list
+module _ {R C : Type 0} (T : Rule R) (K : Kind C) (measured : Measured K) (s : Frontier R C) (from to : ℕ) (here : from < length s.labels.now) (drawn : to < length s.labels.now) (p : Label C) where
   abbrev x : Label C
-  x = get_or ls from p
+  x = get_or s.labels.now from p
 
-  fine_read : Each (Fine K (settings_of K g)) ls → Fine K (settings_of K g) x
-  fine_read fine = fine from p here
+  abbrev IsFine : Type 0
+  IsFine = Fine K (settings_of K (asked_of s)) x
+
+  abbrev AllFine : List (Label C) → Type 0
+  AllFine ls = Each (Fine K (settings_of K (asked_of s))) ls
 
   kept_by : (ls' : List (Label C)) (slots' : List QueueSlot) (len' : ℕ)
-      → (Fine K (settings_of K g) x → Relaxes T K g ls slots len ls' slots' len' (plain K x) from to (to + 1))
-      → (Fine K (settings_of K g) x → Each (Fine K (settings_of K g)) ls → Each (Fine K (settings_of K g)) ls')
-      → Kept T K g ls slots len ls' slots' len' from to (to + 1)
-  kept_by ls' slots' len' relaxes still a n m fine r =
-      let f = fine_read fine in
-      let is : m ≡ plain K x = label_is K ls from x m here (get_or_default ls from p x here) r.labelled in
-      (still f fine, subst (λ y. Relaxing (net_of T K g) a (label_in K ls') (in_queue slots' len') n from y (to + 1)) (sym is) (relaxes f a n (subst (λ y. Relaxing (net_of T K g) a (label_in K ls) (in_queue slots len) n from y to) is r)))
+      → (IsFine → Relaxes T K (asked_of s) s.labels.now s.queue.now s.len ls' slots' len' (plain K x) from to (to + 1))
+      → (IsFine → AllFine s.labels.now → AllFine ls')
+      → Kept T K s ls' slots' len' from to (to + 1)
+  kept_by ls' slots' len' relaxes still a n m t =
+      let f = t.fine from p here in
+      let is : m ≡ plain K x = label_is K s.labels.now from x m here (get_or_default s.labels.now from p x here) t.relaxing.labelled in
+      (still f t.fine, subst (λ y. Relaxing (net_of T K (asked_of s)) a (label_in K ls') (in_queue slots' len') n from y (to + 1)) (sym is) (relaxes f a n (subst (λ y. Relaxing (net_of T K (asked_of s)) a (labelling K s) (waiting s) n from y to) is t.relaxing)))
 
-  pub kept_none : (Fine K (settings_of K g) x → Usable (net_of T K g) to → Step (net_of T K g) from to → 1024 ≤ x.edges) → Kept T K g ls slots len ls slots len from to (to + 1)
-  kept_none full = kept_by ls slots len (λ f. relaxes_none T K measured g ls slots len w x from to drawn (full f)) (λ _ fine. fine)
+  pub kept_none : (IsFine → Usable (net_of T K (asked_of s)) to → Step (net_of T K (asked_of s)) from to → 1024 ≤ x.edges) → Kept T K s s.labels.now s.queue.now s.len from to (to + 1)
+  kept_none full = kept_by s.labels.now s.queue.now s.len (λ f. relaxes_none T K measured (asked_of s) s.labels.now s.queue.now s.len (working_of s) x from to drawn (full f)) (λ _ fine. fine)
 
   module _ (d new : Label C) (grown : 0 < new.edges) where
     abbrev old : Label C
-    old = get_or ls to d
+    old = get_or s.labels.now to d
 
-    held : old ≡ get_or ls to old
-    held = get_or_default ls to d old drawn
+    held : old ≡ get_or s.labels.now to old
+    held = get_or_default s.labels.now to d old drawn
 
-    pub room_read : old.edges ≡ 0 → len < length slots
-    room_read = room_new T K measured g ls slots len w x from to drawn old new held grown
+    pub room_read : old.edges ≡ 0 → s.len < length s.queue.now
+    room_read = room_new T K measured (asked_of s) s.labels.now s.queue.now s.len (working_of s) x from to drawn old new held grown
 
-    pub working_read : old.edges ≡ 0 → Working g (set ls to new) (put_in slots len to) (len + 1)
-    working_read = working_new T K measured g ls slots len w x from to drawn old new held grown
+    pub working_read : old.edges ≡ 0 → Working (asked_of s) (set s.labels.now to new) (put_in s.queue.now s.len to) (s.len + 1)
+    working_read = working_new T K measured (asked_of s) s.labels.now s.queue.now s.len (working_of s) x from to drawn old new held grown
 
-    module _ (offered : Fine K (settings_of K g) x → Offered T K g x from to new) where
-      still : Fine K (settings_of K g) x → Each (Fine K (settings_of K g)) ls → Each (Fine K (settings_of K g)) (set ls to new)
-      still f fine = each_set (Fine K (settings_of K g)) ls to new fine (offered f).fine
+    pub working_better : Working (asked_of s) (set s.labels.now to new) s.queue.now s.len
+    working_better = working_rewritten T K measured (asked_of s) s.labels.now s.queue.now s.len (working_of s) x from to drawn new grown
 
-      pub kept_new : old.edges ≡ 0 → Kept T K g ls slots len (set ls to new) (put_in slots len to) (len + 1) from to (to + 1)
-      kept_new unlabelled = kept_by (set ls to new) (put_in slots len to) (len + 1) (λ f. relaxes_new T K measured g ls slots len w x from to drawn old new held grown unlabelled (offered f)) still
+    module _ (offered : IsFine → Offered T K (asked_of s) x from to new) where
+      still : IsFine → AllFine s.labels.now → AllFine (set s.labels.now to new)
+      still f fine = each_set (Fine K (settings_of K (asked_of s))) s.labels.now to new fine (offered f).fine
 
-      pub kept_old : (old.edges ≡ 0 → ⊥) → AtMost (plain K old) (plain K new) → Kept T K g ls slots len ls slots len from to (to + 1)
-      kept_old labelled h = kept_by ls slots len (λ f. relaxes_old T K measured g ls slots len w x from to drawn old new held grown (omega (arith, labelled)) (offered f) h) (λ _ fine. fine)
+      pub kept_new : old.edges ≡ 0 → Kept T K s (set s.labels.now to new) (put_in s.queue.now s.len to) (s.len + 1) from to (to + 1)
+      kept_new unlabelled = kept_by (set s.labels.now to new) (put_in s.queue.now s.len to) (s.len + 1) (λ f. relaxes_new T K measured (asked_of s) s.labels.now s.queue.now s.len (working_of s) x from to drawn old new held grown unlabelled (offered f)) still
 
-      pub kept_better : (old.edges ≡ 0 → ⊥) → LabelLess (plain K new) (plain K old) → Kept T K g ls slots len (set ls to new) slots len from to (to + 1)
-      kept_better labelled h = kept_by (set ls to new) slots len (λ f. relaxes_better T K measured g ls slots len w x from to drawn old new held grown (omega (arith, labelled)) (offered f) h) still
+      pub kept_old : (old.edges ≡ 0 → ⊥) → AtMost (plain K old) (plain K new) → Kept T K s s.labels.now s.queue.now s.len from to (to + 1)
+      kept_old labelled h = kept_by s.labels.now s.queue.now s.len (λ f. relaxes_old T K measured (asked_of s) s.labels.now s.queue.now s.len (working_of s) x from to drawn old new held grown (omega (arith, labelled)) (offered f) h) (λ _ fine. fine)
+
+      pub kept_better : (old.edges ≡ 0 → ⊥) → LabelLess (plain K new) (plain K old) → Kept T K s (set s.labels.now to new) s.queue.now s.len from to (to + 1)
+      kept_better labelled h = kept_by (set s.labels.now to new) s.queue.now s.len (λ f. relaxes_better T K measured (asked_of s) s.labels.now s.queue.now s.len (working_of s) x from to drawn old new held grown (omega (arith, labelled)) (offered f) h) still
 
 -- an edge that does not start where the other ends
-pub kept_apart : {R C : Type 0} (T : Rule R) (K : Kind C) (measured : Measured K) (g : Question R C) (ls : List (Label C)) (slots : List QueueSlot) (len : ℕ) → Working g ls slots len → (from to : ℕ) → from < length ls → to < length ls
-    → ((edge_at (plan_of g.drawing.now) to).start ≡ (edge_at (plan_of g.drawing.now) from).end → ⊥) → Kept T K g ls slots len ls slots len from to (to + 1)
-kept_apart T K measured g ls slots len w from to here drawn apart a n m fine r =
-    let h = label_held K ls from m r.labelled in
-    kept_none T K measured g ls slots len w from to here drawn h.0 (λ _ _ s. absurd (apart (step_starts (plan_of g.drawing.now) from to s))) a n m fine r
+pub kept_apart : {R C : Type 0} (T : Rule R) (K : Kind C) (measured : Measured K) (s : Frontier R C) (from to : ℕ) → from < length s.labels.now → to < length s.labels.now
+    → ((edge_at (plan_of (asked_of s).drawing.now) to).start ≡ (edge_at (plan_of (asked_of s).drawing.now) from).end → ⊥) → Kept T K s s.labels.now s.queue.now s.len from to (to + 1)
+kept_apart T K measured s from to here drawn apart a n m t =
+    let h = label_held K s.labels.now from m t.relaxing.labelled in
+    kept_none T K measured s from to here drawn h.0 (λ _ _ st. absurd (apart (step_starts (plan_of (asked_of s).drawing.now) from to st))) a n m t

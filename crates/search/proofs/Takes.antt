@@ -6,10 +6,12 @@ use Rattle.cost.specs.declared.kind.CostKind.{Ghosts as Kind}
 use Rattle.rules.specs.declared.rule.TurnRule.{Ghosts as Rule}
 use Rattle.walks.specs.Labels.{Label as Mark, KeyAtMost}
 use Rattle.walks.specs.Loop.{Inv, Relaxing}
-use Rattle.walks.proofs.Loop.{flag_kept, inv_take, relaxing_same}
+use Rattle.walks.proofs.Loop.{flag_kept, inv_take, relaxing_done, relaxing_same}
 use Rattle.search.specs.Grounds.{drawn_in, net_of}
 use Rattle.search.specs.Labels.{plain, label_in}
 use Rattle.search.specs.Queues.{Least, edge_in, in_queue}
+use Rattle.search.specs.Stages.{Keeps, Searching, Takes, asked_of}
+use Rattle.search.specs.declared.frontier.Frontier.{Frontier}
 use Rattle.search.specs.declared.question.Question.{Question}
 use Rattle.search.specs.declared.label.Label.{Label}
 use Rattle.search.specs.declared.queue.QueueSlot.{QueueSlot}
@@ -77,3 +79,10 @@ module _ {R C : Type 0} (T : Rule R) (K : Kind C) (g : Question R C) (ls : List 
       let q = i.running.queued (edge_in slots at) (standing slots len at there (filled_within slots len (drawn_in g) w.filled)) in
       let h = label_held K ls (edge_in slots at) q.0 q.1 in
       (plain K h.0, relaxing_left h.0 h.1 least a n i)
+
+-- a turn of the loop: an edge is taken, and all its steps are relaxed
+pub settled_more : {R C : Type 0} (T : Rule R) (K : Kind C) (s s' s'' : Frontier R C) (e : ℕ) → Takes T K s s' e → Keeps T K s' s'' e 0 (drawn_in (asked_of s'')) → (a n : ℕ) → Searching T K s a n → Searching T K s'' a (n + 1)
+settled_more T K s s' s'' e takes keeps a n i =
+    let t = takes a n i in
+    let u = keeps a (n + 1) t.0 t.1 in
+    record { fine = u.fine; inv = relaxing_done u.relaxing }

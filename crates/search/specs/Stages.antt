@@ -10,19 +10,19 @@
 --   Stays s s'             s' is a search over the ground of s and the labels that were lent to s
 --   Keeps T K s s' e k j   where the steps of e are relaxed up to the edge k in s, they are so up to the edge j in s'
 --   Takes T K s s' e       where the loop's invariant holds in s, e is taken in s', and none of its steps is relaxed yet
---   Settles T K s s'       where the loop's invariant holds in s with some number of settled edges, it holds in s' with one more
+--   Explored T K q ls      the labels ls after the whole search: each is Fine, none is of more edges than are drawn, and the labelling is certified
 --   Opens K q x            x is the label of the walk of the first edge of the question q alone
 --   Offered T K q x e f y  y is the label that the open edge f gets by the step from e, where x is the label of e
 -- Assumes nothing.
-use Rattle.std.specs.Prelude.{◌≡◌, ℕ, ◌+◌, Bool, Option}
+use Rattle.std.specs.Prelude.{◌≡◌, ℕ, ◌+◌, Bool, List, Option}
 use Rattle.cost.specs.declared.kind.CostKind.{Ghosts as Kind}
 use Rattle.rules.specs.declared.rule.TurnRule.{Ghosts as Rule}
 use Rattle.plan.specs.Plans.{plan_of, edge_at}
-use Rattle.walks.specs.Labels.{Label as Mark, extension, none}
+use Rattle.walks.specs.Labels.{Certified, Label as Mark, extension, none}
 use Rattle.walks.specs.Networks.{Usable, Step}
 use Rattle.walks.specs.Loop.{Inv, Relaxing}
-use Rattle.search.specs.Grounds.{net_of, settings_of}
-use Rattle.search.specs.Labels.{plain, label_in, Fine, Each}
+use Rattle.search.specs.Grounds.{drawn_in, net_of, settings_of}
+use Rattle.search.specs.Labels.{Each, Fine, Short, label_in, plain}
 use Rattle.search.specs.Queues.{in_queue}
 use Rattle.search.specs.declared.question.Question.{Question}
 use Rattle.search.specs.declared.frontier.Frontier.{Frontier}
@@ -55,8 +55,10 @@ Keeps T K s s' e k j = (a n : ℕ) (x : Mark) → Turning T K s a n e x k → Tu
 abbrev pub Takes : {R C : Type 0} → Rule R → Kind C → Frontier R C → Frontier R C → ℕ → Type 0
 Takes T K s s' e = (a n : ℕ) → Searching T K s a n → (x : Mark) × Turning T K s' a (n + 1) e x 0
 
-abbrev pub Settles : {R C : Type 0} → Rule R → Kind C → Frontier R C → Frontier R C → Type 0
-Settles T K s s' = (a n : ℕ) → Searching T K s a n → Searching T K s' a (n + 1)
+pub record Explored {R C : Type 0} (T : Rule R) (K : Kind C) (q : Question R C) (ls : List (Label C)) : Type 0 where
+  pub fine : Each (Fine K (settings_of K q)) ls
+  pub short : Short K ls (drawn_in q)
+  pub certified : Certified (net_of T K q) q.first (label_in K ls)
 
 pub record Opens {R C : Type 0} (K : Kind C) (q : Question R C) (x : Label C) : Type 0 where
   pub row : K.row x.cost ≡ K.amount (settings_of K q) 0 (edge_at (plan_of q.drawing.now) q.first).length

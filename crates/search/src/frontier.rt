@@ -10,7 +10,7 @@ use crate::queue::QueueSlot;
 
 /// The labels of all drawn edges, and a queue in the first slots, in no order: the edges that have a label and are not settled yet, each once.
 #[derive(Drop)]
-pub struct Frontier<'f, 'd, R, C> {
+pub(crate) struct Frontier<'f, 'd, R, C> {
     ground: &'f Ground<'f, 'd, R, C>,
     labels: &'f mut [Label<C>],
     queue: &'f mut [QueueSlot],
@@ -21,7 +21,6 @@ pub struct Frontier<'f, 'd, R, C> {
     ghost waiting: { (e : ℕ) (d : Label C) → e < length labels.now → in_queue queue.now len e ≡ true → 0 < (slice_index_or labels.now e d).edges },
 }
 
-mod least;
 mod relax;
 mod run;
-mod settle;
+mod take;

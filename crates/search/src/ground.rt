@@ -6,8 +6,8 @@ use crate::question::Question;
 
 /// A question between two drawn edges, with a byte of the sheet for each drawn edge.
 #[derive(Drop)]
-pub struct Ground<'q, 'd, R, C> {
-    pub question: &'q Question<'q, 'd, R, C>,
+pub(crate) struct Ground<'q, 'd, R, C> {
+    pub(crate) question: &'q Question<'q, 'd, R, C>,
     ghost covered: { drawn_in question.now ≤ length question.now.sheet.now },
     ghost from: { question.now.first < drawn_in question.now },
     ghost to: { question.now.last < drawn_in question.now },

@@ -1,6 +1,5 @@
 // A search from its start to its end.
-ghost use Rattle.std.specs.Prelude.{◌≡◌, ℕ, ◌<◌, ◌≤◌, length};
-ghost use Rattle.walks.specs.Labels.{Certified};
+ghost use Rattle.std.specs.Prelude.{◌≡◌, ◌≤◌, length};
 
 use crate::clear::clear;
 use crate::frontier::Frontier;
@@ -11,17 +10,15 @@ use cost::CostKind;
 use rules::TurnRule;
 
 impl<R: TurnRule, C: CostKind> Ground<'_, '_, R, C> {
-    ghost use Rattle.search.specs.Grounds.{drawn_in, net_of, settings_of};
-    ghost use Rattle.search.specs.Labels.{Each, Fine, Short, label_in};
-    ghost use Rattle.search.specs.Stages.{Opens};
+    ghost use Rattle.search.specs.Grounds.{drawn_in, settings_of};
+    ghost use Rattle.search.specs.Labels.{Fine};
+    ghost use Rattle.search.specs.Stages.{Explored, Opens};
 
     // Labels every drawn edge for walks from the first edge: with the simplest walk to it, or as one to which no walk leads.
     pub(crate) fn explore(&self, labels: &mut [Label<C>], queue: &mut [QueueSlot])
         requires size { length labels.old ≡ drawn_in self.now.question.now }
         requires room { drawn_in self.now.question.now ≤ length queue.old }
-        ensures fine { Each (Fine C.CostKind (settings_of C.CostKind self.now.question.now)) labels.new }
-        ensures short { Short C.CostKind labels.new (drawn_in self.now.question.now) }
-        ensures certified { Certified (net_of R.TurnRule C.CostKind self.now.question.now) self.now.question.now.first (label_in C.CostKind labels.new) }
+        ensures explored { Explored R.TurnRule C.CostKind self.now.question.now labels.new }
     {
         let first = self.question.first as u16;
         clear(labels, self.question.cost);
@@ -58,20 +55,17 @@ impl<R: TurnRule, C: CostKind> Ground<'_, '_, R, C> {
 }
 
 impl<R: TurnRule, C: CostKind> Frontier<'_, '_, R, C> {
-    ghost use Rattle.search.specs.Grounds.{drawn_in, net_of, settings_of};
-    ghost use Rattle.search.specs.Labels.{Each, Fine, Short, label_in};
-    ghost use Rattle.search.specs.Stages.{Searching, Stays, asked_of};
+    ghost use Rattle.search.specs.Stages.{Explored, Searching, Stays, asked_of};
 
-    // Runs the search to its end, when no edge waits.
+    // The loop of the search: edges leave the queue in the order of their labels, each once, and their steps are relaxed, until no edge waits.
     fn run(&mut self)
         requires begun { Searching R.TurnRule C.CostKind self.old (asked_of self.old).first 0 }
         ensures stays { Stays self.old self.new }
-        ensures fine { Each (Fine C.CostKind (settings_of C.CostKind (asked_of self.old))) self.new.labels.now }
-        ensures short { Short C.CostKind self.new.labels.now (drawn_in (asked_of self.old)) }
-        ensures certified { Certified (net_of R.TurnRule C.CostKind (asked_of self.old)) (asked_of self.old).first (label_in C.CostKind self.new.labels.now) }
+        ensures explored { Explored R.TurnRule C.CostKind (asked_of self.old) self.new.labels.now }
     {
         while self.len > 0 {
-            self.settle();
+            let edge = self.take_least();
+            self.relax_all(edge);
         }
     }
 }

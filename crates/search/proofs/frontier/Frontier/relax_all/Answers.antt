@@ -4,7 +4,7 @@ use Rattle.plan.specs.declared.row.EdgeRow.{EdgeRow}
 use Rattle.search.specs.Grounds.{drawn_in}
 use Rattle.search.specs.Stages.{Keeps, Stays, asked_of}
 use Rattle.search.specs.declared.frontier.Frontier.{Frontier}
-use Rattle.search.proofs.Steps.{kept_apart, working_of}
+use Rattle.search.proofs.Steps.{kept_apart, stays_both}
 use Rattle.search.proofs.frontier.Frontier.relax_all.Goals as goal
 use Rattle.search.proofs.frontier.Frontier.relax_all.Goals.{then-row-end, else-row-end}
 
@@ -17,15 +17,14 @@ loop-to-preserved g c =
     let count : length c.edges-edges.result.now ≡ drawn_in (asked_of s) = ap length rows in
     elim c.if-row-end.branch [
       | then-row-end w ↦ subst G (sym w.self-is) (
-        record { ground = w.relax.ensures.stays.ground ∙ stays.ground; lender = w.relax.ensures.stays.lender ∙ stays.lender },
+        stays_both stays w.relax.ensures.stays,
         λ a n x t. w.relax.ensures.keeps a n x (c.loop-to.invariant.1 a n x t),
       )
       | else-row-end w ↦ subst G (sym w.self-is) (
         stays,
         λ a n x t.
-            let u = c.loop-to.invariant.1 a n x t in
-            let r = kept_apart g.R.TurnRule g.C.CostKind g.met.C.CostKind.measured (asked_of s) s.labels.now s.queue.now s.len (working_of s) c.args.from c.loop-to.to (omega (arith, c.requires.drawn, c.args.self.now.size, ap length c.edges-edges.ensures.value, count, s.size)) (omega (arith, count, s.size))
-            (subst (λ rows. (get_or rows c.loop-to.to no_row).start ≡ (get_or rows c.args.from no_row).end → ⊥) rows w.if-row-end.false) a n x u.fine u.relaxing in
+            let r = kept_apart g.R.TurnRule g.C.CostKind g.met.C.CostKind.measured s c.args.from c.loop-to.to (omega (arith, c.requires.drawn, c.args.self.now.size, ap length c.edges-edges.ensures.value, count, s.size)) (omega (arith, count, s.size))
+            (subst (λ rows. (get_or rows c.loop-to.to no_row).start ≡ (get_or rows c.args.from no_row).end → ⊥) rows w.if-row-end.false) a n x (c.loop-to.invariant.1 a n x t) in
             record { fine = r.0; relaxing = r.1 },
       )
     ]

@@ -1,21 +1,16 @@
-use Rattle.std.proofs.Common.{arith, rules}
+use Rattle.std.proofs.Common.{arith}
 use Rattle.plan.proofs.Drawn.{sound_of}
-use Rattle.walks.proofs.Options.{none_not_some}
 use Rattle.search.proofs.Slots.{filled_within}
-use Rattle.search.proofs.Starts.{blank_none, certified_shut, inv_begun, start_fine, working_start}
-use Rattle.search.specs.Grounds.{settings_of}
+use Rattle.search.proofs.Starts.{explored_shut, inv_begun, start_fine, working_start}
 use Rattle.search.proofs.ground.Ground.explore.Goals as goal
 
 pub overflow_cast-first : goal.overflow_cast-first
 overflow_cast-first g c = omega (arith, (sound_of c.args.self.now.question.now.drawing.now).few, c.args.self.now.from)
 
-pub returns-then-self-first-ne0-clause-short : goal.returns-then-self-first-ne0-clause-short
-returns-then-self-first-ne0-clause-short g c = λ e x h. absurd (none_not_some (blank_none g.C.CostKind (settings_of g.C.CostKind c.args.self.now.question.now) c.clear.new.labels c.clear.ensures.blank e) h)
-
-pub returns-then-self-first-ne0-clause-certified : goal.returns-then-self-first-ne0-clause-certified
-returns-then-self-first-ne0-clause-certified g c =
+pub returns-then-self-first-ne0 : goal.returns-then-self-first-ne0
+returns-then-self-first-ne0 g c =
     let q = c.args.self.now.question.now in
-    certified_shut g.R.TurnRule g.C.CostKind g.met.C.CostKind.measured q c.clear.new.labels c.args.queue.now (omega (arith, c.clear.auto.labels, c.requires.size)) c.requires.room (omega (arith, c.clear.auto.labels, c.requires.size, c.args.self.now.from)) c.clear.ensures.blank c.if-self-first-ne0.true
+    record { explored = explored_shut g.R.TurnRule g.C.CostKind g.met.C.CostKind.measured q c.clear.new.labels c.args.queue.now (omega (arith, c.clear.auto.labels, c.requires.size)) c.requires.room (omega (arith, c.clear.auto.labels, c.requires.size, c.args.self.now.from)) c.clear.ensures.blank c.if-self-first-ne0.true }
 
 pub invariant_of-search : goal.invariant_of-search
 invariant_of-search g c =
@@ -32,6 +27,3 @@ run-requires g c =
         inv = inv_begun g.R.TurnRule g.C.CostKind g.met.C.CostKind.measured q c.clear.new.labels c.args.queue.now (omega (arith, c.clear.auto.labels, c.requires.size)) c.requires.room (omega (arith, c.clear.auto.labels, c.requires.size, c.args.self.now.from)) c.clear.ensures.blank c.opening.result c.opening.ensures.value c.if-self-first-ne0.false;
       };
     }
-
-pub returns-clause-short : goal.returns-clause-short
-returns-clause-short g c = λ e x h. c.run.ensures.short e x (search rules)
