@@ -3,17 +3,14 @@ use Rattle.std.proofs.Common.{◌≡◌, ℕ, ◌+◌, ◌<◌, List, [], ◌∷
 use Rattle.std.proofs.lemmas.List.{map_more, take_more}
 use Rattle.cost.specs.declared.kind.CostKind.{Ghosts as Kind}
 use Rattle.rules.specs.declared.rule.TurnRule.{Ghosts as Rule}
-use Rattle.plan.specs.Plans.{Over, plan_of, spare_of}
 use Rattle.plan.specs.Studies.{Study, next}
 use Rattle.plan.specs.declared.change.Change.{Change as Alteration}
-use Rattle.plan.specs.declared.drawing.Drawing.{Drawing}
-use Rattle.plan.specs.declared.row.EdgeRow.{EdgeRow}
 use Rattle.search.specs.Histories.{Agrees, Call as Event, after_calls, next_call}
 use Rattle.search.specs.Questions.{Answers, Question, asked_by}
 use Rattle.search.specs.declared.answer.Answer.{Answer}
 use Rattle.search.specs.declared.fault.QuestionFault.{QuestionFault}
 use Rattle.search.specs.declared.label.Label.{Label}
-use Rattle.history.specs.Replays.{ReplayedByRun, Run, call_of, calls_of, drawn_over}
+use Rattle.history.specs.Replays.{ReplayedByRun, Run, call_of, calls_of}
 use Rattle.history.specs.declared.call.Call.{Call}
 use Rattle.history.specs.declared.call.Call.TheVariants.{Change, Ask}
 
@@ -71,9 +68,6 @@ run_more_ask T K queue queue' m n s t calls k x a z rule cost labels held labels
     subst (λ h. Run T K queue s h labels labels' route route') (one_more calls k x (Ask a z rule cost) l e is)
     (run_ask T K queue m n s (take k calls) a z rule cost labels held labels' route found route' r run
     (subst₂ (λ u width. Answers K (K.settings cost) u (asked_by T K rule (K.settings cost) a z (length held) width (length found)) held labels' found route' r) same wide answers))
-
-pub rows_back : (brought rows : List EdgeRow) (d : Drawing) (edges : List EdgeRow) → rows ≡ (plan_of d).edges ++ spare_of d → Over brought d → (plan_of d).edges ≡ edges → rows ≡ drawn_over brought edges
-rows_back brought rows d edges back over e = back ∙ ap (λ rest. (plan_of d).edges ++ rest) over ∙ ap (drawn_over brought) e
 
 module _ {R C : Type 0} (T : Rule R) (K : Kind C) (rule : R) (σ : K.Settings) (first last : ℕ) (labels held labels' : List (Label C)) (route found route' : List ℕ) (queue queue' : ℕ) (s begin start : Study) (calls : List (Call R C)) (r : Result (Answer C) QuestionFault) (as_many : length held ≡ length labels) (as_long : length found ≡ length route) (as_wide : queue' ≡ queue) (begins : begin ≡ start) (same : s ≡ after_calls start (calls_of T K (length labels) queue (length route) calls)) where
   carried : (P : Study → Question → Type 0) → P s (asked_by T K rule σ first last (length held) queue' (length found)) → P (after_calls start (calls_of T K (length labels) queue (length route) calls)) (asked_by T K rule σ first last (length labels) queue (length route))

@@ -1,6 +1,6 @@
 -- The charge of a step that is not straight.
-use Rattle.std.proofs.Common.{◌≡◌, ℕ, ◌+◌, ◌<◌, ◌≤◌, true, false, cond, not, ◌&&◌, eqb, ◌⊎◌, length, sym, ap, ◌∙◌, inl, inr, arith}
-use Rattle.std.proofs.lemmas.Bool.{cases_eq, le-leb, lt-leb, eq-eqb, ne_eqb, and_right, le-ltb, lt-ltb}
+use Rattle.std.proofs.Common.{◌≡◌, ℕ, ◌+◌, ◌<◌, true, false, cond, not, ◌&&◌, eqb, ◌⊎◌, length, sym, ap, ◌∙◌, inl, inr, arith}
+use Rattle.std.proofs.lemmas.Bool.{cases_eq, lt-leb, eq-eqb, ne_eqb, and_right, le-ltb, lt-ltb}
 use Rattle.turns.specs.declared.class.Class.TheVariants.{Straight}
 use Rattle.plan.specs.Plans.{Plan, degree, edge_at, steps}
 use Rattle.rules.specs.Ambiguity.{other}
@@ -22,9 +22,6 @@ module _ (p : Plan) (e f n : ℕ) (step : steps p e f ≡ true) (turning : strai
       ap (λ b. cond b (slots_at (straight p e f) (way_on p e) (degree p (edge_at p e).end)) 0) step
       ∙ ap (λ b. slots_at b (way_on p e) (degree p (edge_at p e).end)) turning
       ∙ ap (slots_at false (way_on p e)) (sym here)
-
-  pub at_two : n ≤ 2 → slots_charge p e f ≡ 4
-  at_two h = whole ∙ ap (λ b. cond b 4 (cond (eqb n 3 && not (way_on p e)) 6 (5 + n))) (le-leb n 2 h)
 
   past_two : 2 < n → slots_charge p e f ≡ cond (eqb n 3 && not (way_on p e)) 6 (5 + n)
   past_two h = whole ∙ ap (λ b. cond b 4 (cond (eqb n 3 && not (way_on p e)) 6 (5 + n))) (lt-leb n 2 h)

@@ -1,5 +1,4 @@
-use Rattle.std.proofs.Common.{◌≡◌, ℕ, ◌+◌, List, length, take, sym, ap, ◌∙◌, subst, subst₂, arith}
-use Rattle.std.proofs.lemmas.List.{take_all}
+use Rattle.std.proofs.Common.{◌≡◌, ℕ, ◌+◌, List, length, take, sym, ap, ◌∙◌, subst₂, arith}
 use Rattle.plan.specs.Plans.{Over, lender_of}
 use Rattle.plan.specs.Studies.{Study, next, study_of}
 use Rattle.plan.specs.declared.drawing.Drawing.{Drawing}
@@ -38,13 +37,3 @@ loop-call-preserved g c =
             c.args.labels.now c.loop-call.labels w.ask.new.labels c.args.route.now c.loop-call.route w.ask.new.route w.ask.result (omega arith) c.call-item.is w.in-Ask.is c.loop-call.auto.queue c.loop-call.invariant.0 c.loop-call.invariant.3 w.ask.ensures.answers),
       )
     ]
-
-pub returns : goal.returns
-returns g c =
-    let all : take c.loop-call.call-index c.args.calls.now ≡ c.args.calls.now = take_all c.loop-call.call-index c.args.calls.now (omega arith) in
-    record {
-      after = c.loop-call.invariant.0 ∙ ap (λ h. after_calls (study_of c.args.drawing.now c.args.sheet.now) (calls_of g.R.TurnRule g.C.CostKind (length c.args.labels.now) (length c.args.queue.now) (length c.args.route.now) h)) all;
-      lender = c.loop-call.invariant.1;
-      rows = c.loop-call.invariant.2;
-      run = subst (λ h. Run g.R.TurnRule g.C.CostKind (length c.args.queue.now) (study_of c.args.drawing.now c.args.sheet.now) h c.args.labels.now c.loop-call.labels c.args.route.now c.loop-call.route) all c.loop-call.invariant.3;
-    }

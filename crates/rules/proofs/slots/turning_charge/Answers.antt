@@ -1,10 +1,7 @@
 use Rattle.std.proofs.Common.{rules}
 use Rattle.plan.specs.Plans.{plan_of}
-use Rattle.rules.proofs.Turning.{at_two, at_three, past_three}
+use Rattle.rules.proofs.Turning.{at_three, past_three}
 use Rattle.rules.proofs.slots.turning_charge.Goals as goal
-
-pub returns-then-degree-le-NARROW : goal.returns-then-degree-le-NARROW
-returns-then-degree-le-NARROW c = search (rules, at_two (plan_of c.args.drawing.now) c.args.from c.args.to)
 
 pub returns-then-other_steps-eq0 : goal.returns-then-other_steps-eq0
 returns-then-other_steps-eq0 c = search (rules, at_three (plan_of c.args.drawing.now) c.args.from c.args.to)
