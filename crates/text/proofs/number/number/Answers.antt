@@ -1,7 +1,6 @@
-use Rattle.std.proofs.Common.{length, get_or, sym, ◌∙◌, inl, inr, arith, below_more}
+use Rattle.std.proofs.Common.{length, sym, ◌∙◌, inl, inr, arith}
 use Rattle.std.proofs.lemmas.Bool.{eqb-true, eqb-false}
-use Rattle.std.specs.Int.{IsInRange}
-use Rattle.text.proofs.Spelling.{number_some, number_short, number_first, number_digits, front_small, front_more, spelt_value}
+use Rattle.text.proofs.Spelling.{number_some, number_short, number_first, number_digits, front_small, spelt_value}
 use Rattle.text.proofs.number.number.Goals as goal
 
 pub returns-then-is_empty : goal.returns-then-is_empty
@@ -29,14 +28,6 @@ overflow_mul-value c =
 pub overflow_add-value : goal.overflow_add-value
 overflow_add-value c =
     omega (arith, c.loop-digit.invariant.1, front_small c.args.field.now c.loop-digit.digit-index c.loop-digit.invariant.0 (omega arith) (omega arith))
-
-pub loop-digit-preserved : goal.loop-digit-preserved
-loop-digit-preserved c =
-    let f = c.args.field.now in
-    let i = c.loop-digit.digit-index in
-    let here : IsInRange 48 57 (get_or f i 0) = c.if-not-is_ascii_digit.ensures.cases in
-    let step = front_more f i c.loop-digit.invariant.0 c.loop-digit-test.true here in
-    (below_more _ _ c.loop-digit.invariant.0 here, omega (arith, step, c.loop-digit.invariant.1))
 
 pub returns : goal.returns
 returns c =
