@@ -5,11 +5,10 @@
 -- Glossary
 --   started st                whether a `sectors` line was accepted
 --   begins l                  what the line l answers where no study is begun: the limits of the drawing, or why not
---   asked s l                 what the call that the line l asks for answers in the study s
---   reply_of n                the reply to a change that was made: `edge` with the number n of the edge that it drew, else `ok`
+--   asked s l                 what the call that the line l asks for answers in the study s: the number of the edge that it drew, if it drew one
 --   moved s l                 the study after that call: a refused one changes nothing
---   called st l               what the line l answers in the state st, with no line number
---   numbered r i              the reply to the line number i of the answer r
+--   called st l               what the line l answers in the state st, with no word and no line number
+--   numbered r i              the reply to the line number i with the answer r: `edge` with the number of the edge that was drawn, `ok`, or `refused`
 --   answer_to st l i          the reply to the line l, which has the number i, in the state st
 --   carried rows size st l    the state after the line l, where a study has so many rows and so long a sheet
 --   Obeyed                    a line is the text of a sound line: its reply is that line's, and so is the state after it
@@ -44,21 +43,17 @@ started None = false
 started (Some s) = true
 
 -- a call's answer as a reply, or its fault as one of the text
-abbrev pub told : {A B : Type 0} → (A → B) → Result A PlanFault → Result B TextFault
-told f (Ok x) = Ok (f x)
-told f (Err p) = Err (Plan p)
+abbrev pub told : {A : Type 0} → Result A PlanFault → Result A TextFault
+told (Ok x) = Ok x
+told (Err p) = Err (Plan p)
 
 abbrev pub begins : Line → Result Limits TextFault
-begins (line.Sectors s b h) = told (λ l. l) (limits_answer s b h)
+begins (line.Sectors s b h) = told (limits_answer s b h)
 begins (line.Change c) = Err (Field 1)
 
-abbrev pub reply_of : Option ℕ → Reply
-reply_of (Some edge) = Edge edge
-reply_of None = Done
-
-abbrev pub asked : Study → Line → Result Reply TextFault
+abbrev pub asked : Study → Line → Result (Option ℕ) TextFault
 asked s (line.Sectors a b h) = Err (Field 1)
-asked s (line.Change c) = told reply_of (answered (refusal_of s c) (number_drawn s c))
+asked s (line.Change c) = told (answered (refusal_of s c) (number_drawn s c))
 
 abbrev pub moved : Study → Line → Study
 moved s (line.Sectors a b h) = s
@@ -68,11 +63,11 @@ abbrev pub begun_by : ℕ → ℕ → Result Limits TextFault → Option Study
 begun_by rows size (Ok l) = Some (begun l rows size)
 begun_by rows size (Err f) = None
 
-abbrev pub done_by : Result Limits TextFault → Result Reply TextFault
-done_by (Ok l) = Ok Done
+abbrev pub done_by : Result Limits TextFault → Result (Option ℕ) TextFault
+done_by (Ok l) = Ok None
 done_by (Err f) = Err f
 
-abbrev pub called : Option Study → Line → Result Reply TextFault
+abbrev pub called : Option Study → Line → Result (Option ℕ) TextFault
 called None l = done_by (begins l)
 called (Some s) l = asked s l
 
@@ -80,8 +75,9 @@ abbrev pub carried : ℕ → ℕ → Option Study → Line → Option Study
 carried rows size None l = begun_by rows size (begins l)
 carried rows size (Some s) l = Some (moved s l)
 
-abbrev pub numbered : Result Reply TextFault → ℕ → Reply
-numbered (Ok r) i = r
+abbrev pub numbered : Result (Option ℕ) TextFault → ℕ → Reply
+numbered (Ok (Some edge)) i = Edge edge
+numbered (Ok None) i = Done
 numbered (Err f) i = Refused (text_refusal f) i
 
 abbrev pub answer_to : Option Study → Line → ℕ → Reply

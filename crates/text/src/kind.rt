@@ -10,7 +10,7 @@ use super::fault::TextFault;
 pub const FIRST: u32 = 1;
 
 /// A kind of line.
-#[derive(Clone, Copy)]
+#[derive(Clone, Copy, PartialEq, Eq)]
 pub enum Kind {
     Sectors,
     Edge,

@@ -57,11 +57,11 @@ pub fn play(
 fn play_opening(lines: &mut Lines<'_>, text: &mut String) -> Result<Option<Sectors>, AllocError>
     ensures cases { (rows size : ℕ) → IfOk result (λ o. MatchOption o (Ends rows size (moment Nothing lines.old (string_bytes text.old)) Nothing (string_bytes text.new)) (λ l. Went rows size (moment Nothing lines.old (string_bytes text.old)) (moment (Just (begun (limits_of l) rows size)) lines.new (string_bytes text.new)))) }
 {
-    // No `for`: it would take the lines, and those behind the one that begins the drawing are still to be played.
+    // A `for` over the lent lines was tried: what they are at the early return is then known by no name that a proof may use.
     while let Some((bytes, number)) = lines.next() {
         match begin_line(bytes) {
             Ok(limits) => {
-                put(text, Ok(Reply::Done), number)?;
+                put(text, Ok(None), number)?;
                 return Ok(Some(limits));
             }
             Err(fault) => put(text, Err(fault), number)?,
@@ -111,12 +111,12 @@ fn begin_line(bytes: &[u8]) -> Result<Sectors, TextFault>
     begin(read_line(bytes, false)?)
 }
 
-// Plays a line over a drawing and its sheet, and answers its reply; else its fault, where nothing is changed.
+// Plays a line over a drawing and its sheet, and answers the number of the edge that it drew, if it drew one; else its fault, where nothing is changed.
 fn answer_line(
     drawing: &mut Drawing<'_>,
     sheet: &mut [u8],
     bytes: &[u8],
-) -> Result<Reply, TextFault>
+) -> Result<Option<u32>, TextFault>
     ensures cases { (rows size i : ℕ) → Answered rows size (Just (study_of drawing.old sheet.old)) i bytes.now (numbered_as result i) (Just (study_of drawing.new sheet.new)) }
     ensures over { (rows : List Row) → Over rows drawing.old → Over rows drawing.new }
     ensures lender { lender_of drawing.new ≡ lender_of drawing.old }
@@ -125,11 +125,12 @@ fn answer_line(
 }
 
 // The reply to the line with this number: its answer, or its refusal with that number.
-fn numbered(answer: Result<Reply, TextFault>, line: u32) -> Reply
+fn numbered(answer: Result<Option<u32>, TextFault>, line: u32) -> Reply
     ensures value { result ≡ numbered_as answer line }
 {
     match answer {
-        Ok(reply) => reply,
+        Ok(Some(edge)) => Reply::Edge(edge),
+        Ok(None) => Reply::Done,
         Err(fault) => Reply::Refused {
             refusal: fault.into(),
             line,
@@ -138,7 +139,11 @@ fn numbered(answer: Result<Reply, TextFault>, line: u32) -> Reply
 }
 
 // Writes the reply to the line with this number and a newline behind the text.
-fn put(text: &mut String, answer: Result<Reply, TextFault>, line: u32) -> Result<(), AllocError>
+fn put(
+    text: &mut String,
+    answer: Result<Option<u32>, TextFault>,
+    line: u32,
+) -> Result<(), AllocError>
     ensures bytes { OnOk result (string_bytes text.new ≡ string_bytes text.old ++ (reply_text (numbered_as answer line) ++ (10 ∷ []))) }
 {
     let reply = numbered(answer, line);

@@ -52,10 +52,7 @@ fn read_fields(kind: Kind, fields: &mut Cursor<'_>) -> Result<Line, TextFault>
 fn may_come(kind: Kind, started: bool) -> bool
     ensures cases { MatchBool result (is_opening kind ≡ not started) (is_opening kind ≡ started) }
 {
-    match kind {
-        Kind::Sectors => !started,
-        _ => started,
-    }
+    (kind == Kind::Sectors) != started
 }
 
 /// The kind of line that the first field names, if one of it may come now; else that field's fault.
