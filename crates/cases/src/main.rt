@@ -15,11 +15,14 @@ fn worked_examples_hold()
     ensures { Worked }
 {}
 
-// The angle and the class of a turn under the limits 20, 60 and 120.
-fn show_turn(rt: &HostRuntime, arriving: u32, leaving: u32, want: &str) -> io::Result<()> {
-    let Ok(limits) = Sectors::new(20, 60, 120) else {
-        return println!(rt; "no limits");
-    };
+// The angle and the class of a turn.
+fn show_turn(
+    rt: &HostRuntime,
+    limits: Sectors,
+    arriving: u32,
+    leaving: u32,
+    want: &str,
+) -> io::Result<()> {
     match turn(&limits, arriving, leaving) {
         Ok((angle, class)) => {
             let code = u8::from(class);
@@ -46,10 +49,7 @@ fn straight(start: u32, end: u32, bearing: u32) -> NewEdge {
 }
 
 // What slots charges for turning left beside a straight step, at a junction that so many edges leave.
-fn show_slots(rt: &HostRuntime, degree: u32, want: u32) -> io::Result<()> {
-    let Ok(limits) = Sectors::new(20, 60, 120) else {
-        return println!(rt; "no limits");
-    };
+fn show_slots(rt: &HostRuntime, limits: Sectors, degree: u32, want: u32) -> io::Result<()> {
     let mut rows = [EdgeRow::EMPTY; 8];
     let mut drawing = Drawing::new(limits, &mut rows);
     let _ = drawing.draw(straight(0, 1, 90));
@@ -76,12 +76,15 @@ fn show_weights(rt: &HostRuntime, wd: u32, wu: u32, want: &str) -> io::Result<()
 
 fn main(rt: HostRuntime) -> io::Result<()> {
     worked_examples_hold();
-    show_turn(&rt, 60, 0, "-60 4")?;
-    show_turn(&rt, 0, 120, "120 2")?;
-    show_turn(&rt, 0, 360, "refused 5 360")?;
-    show_turn(&rt, 400, 361, "refused 5 361")?;
-    show_slots(&rt, 3, 8)?;
-    show_slots(&rt, 5, 10)?;
+    let Ok(limits) = Sectors::new(20, 60, 120) else {
+        return println!(rt; "no limits");
+    };
+    show_turn(&rt, limits, 60, 0, "-60 4")?;
+    show_turn(&rt, limits, 0, 120, "120 2")?;
+    show_turn(&rt, limits, 0, 360, "refused 5 360")?;
+    show_turn(&rt, limits, 400, 361, "refused 5 361")?;
+    show_slots(&rt, limits, 3, 8)?;
+    show_slots(&rt, limits, 5, 10)?;
     show_weights(&rt, 100, 100, "ok")?;
     show_weights(&rt, 101, 200, "refused 14 101")?;
     show_weights(&rt, 0, 101, "refused 14 101")

@@ -1,4 +1,8 @@
 -- How faults compare.
+--
+-- Glossary
+--   compared   what the derived `==` of faults answers
+-- Assumes nothing.
 use Rattle.std.specs.Prelude.{◌≡◌, refl}
 use Rattle.cost.specs.Faults.{same_fault}
 use Rattle.cost.specs.declared.fault.CostFault.{CostFault}

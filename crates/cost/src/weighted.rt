@@ -1,5 +1,5 @@
 // The kind of cost that adds up weighted lengths and charges.
-ghost use Rattle.std.specs.Prelude.{◌≡◌, ◌+◌, ◌*◌, ◌≤◌, IfOk};
+ghost use Rattle.std.specs.Prelude.{◌≡◌, ◌+◌, ◌*◌, IfOk};
 ghost use Rattle.std.proofs.Common.{add-le-add, mul-le-mul_left, rules};
 ghost use Rattle.cost.specs.Rows.{zeros};
 ghost use Rattle.cost.specs.Weights.{Weights, weights, weights_read, weight_fault, weighted_additions, weighted_most, weighted_row};

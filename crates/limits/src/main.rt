@@ -182,71 +182,29 @@ fn sizes(rt: &HostRuntime) -> io::Result<()> {
 }
 
 fn fields(rt: &HostRuntime) -> io::Result<()> {
-    check(
-        rt,
-        FULL,
-        "missing",
-        "sectors\t20\t60",
-        1,
-        "refused\t12\t4\t1\ttext",
-    )?;
-    check(
-        rt,
-        FULL,
-        "surplus",
-        "sectors\t20\t60\t120\t",
-        1,
-        "refused\t12\t5\t1\ttext",
-    )?;
-    check(
-        rt,
-        FULL,
-        "empty",
-        "sectors\t\t60\t120",
-        1,
-        "refused\t12\t2\t1\ttext",
-    )?;
-    check(
-        rt,
-        FULL,
-        "00",
-        "sectors\t00\t60\t120",
-        1,
-        "refused\t12\t2\t1\ttext",
-    )?;
-    check(
-        rt,
-        FULL,
-        "07",
-        "sectors\t0\t07\t120",
-        1,
-        "refused\t12\t3\t1\ttext",
-    )?;
-    check(
-        rt,
-        FULL,
-        "1000000",
-        "sectors\t0\t7\t1000000",
-        1,
-        "refused\t12\t4\t1\ttext",
-    )?;
-    check(
-        rt,
-        FULL,
-        "999999",
-        "sectors\t0\t7\t999999",
-        1,
-        "refused\t1\t3\t1\tplan",
-    )?;
-    check(rt, FULL, "180", "sectors\t180\t180\t180", 1, "ok")?;
-    check(
-        rt,
-        FULL,
-        "181",
-        "sectors\t181\t180\t180",
-        1,
-        "refused\t1\t1\t1\tplan",
-    )
+    let cases = [
+        ("missing", "sectors\t20\t60", "refused\t12\t4\t1\ttext"),
+        (
+            "surplus",
+            "sectors\t20\t60\t120\t",
+            "refused\t12\t5\t1\ttext",
+        ),
+        ("empty", "sectors\t\t60\t120", "refused\t12\t2\t1\ttext"),
+        ("00", "sectors\t00\t60\t120", "refused\t12\t2\t1\ttext"),
+        ("07", "sectors\t0\t07\t120", "refused\t12\t3\t1\ttext"),
+        (
+            "1000000",
+            "sectors\t0\t7\t1000000",
+            "refused\t12\t4\t1\ttext",
+        ),
+        ("999999", "sectors\t0\t7\t999999", "refused\t1\t3\t1\tplan"),
+        ("180", "sectors\t180\t180\t180", "ok"),
+        ("181", "sectors\t181\t180\t180", "refused\t1\t1\t1\tplan"),
+    ];
+    for (name, log, last) in cases {
+        check(rt, FULL, name, log, 1, last)?;
+    }
+    Ok(())
 }
 
 fn main(rt: HostRuntime) -> io::Result<()> {
