@@ -63,8 +63,7 @@ impl<R: TurnRule, C: CostKind> Frontier<'_, '_, R, C> {
         ensures stays { Stays self.old self.new }
         ensures explored { Explored R.TurnRule C.CostKind (asked_of self.old) self.new.labels.now }
     {
-        while self.len > 0 {
-            let edge = self.take_least();
+        while let Some(edge) = self.take_least() {
             self.relax_all(edge);
         }
     }
