@@ -31,8 +31,8 @@ impl<R: TurnRule, C: CostKind> Frontier<'_, '_, R, C> {
         }
         let mut best = 0;
         for at in 1..self.len {
-            let x = self.labels[self.queue[at].edge as usize];
-            let y = self.labels[self.queue[best].edge as usize];
+            let x = self.labels[usize::from(self.queue[at].edge)];
+            let y = self.labels[usize::from(self.queue[best].edge)];
             if x.is_nearer(&y) {
                 best = at;
             }

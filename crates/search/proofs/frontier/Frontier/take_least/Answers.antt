@@ -13,7 +13,9 @@ invariant_of-self g c =
 
 pub returns-clause-takes : goal.returns-clause-takes
 returns-clause-takes g c =
-    let s = c.args.self.now in
-    (search rules, λ a n i.
-    let r = taking g.R.TurnRule g.C.CostKind (asked_of s) s.labels.now s.queue.now s.len c.in_ok-at.at (working_of s) c.in_ok-at.ensures.value.0 c.in_ok-at.ensures.value.1 a n i.inv in
-    (r.0, record { fine = i.fine; relaxing = r.1 }))
+    let s = c.args.self.now in (
+      search rules,
+      λ a n i.
+          let r = taking g.R.TurnRule g.C.CostKind (asked_of s) s.labels.now s.queue.now s.len c.in_ok-at.at (working_of s) c.in_ok-at.ensures.value.0 c.in_ok-at.ensures.value.1 a n i.inv in
+          (r.0, record { fine = i.fine; relaxing = r.1 }),
+    )

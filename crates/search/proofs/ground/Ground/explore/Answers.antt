@@ -4,8 +4,8 @@ use Rattle.search.proofs.Slots.{filled_within}
 use Rattle.search.proofs.Starts.{explored_shut, inv_begun, start_fine, working_start}
 use Rattle.search.proofs.ground.Ground.explore.Goals as goal
 
-pub overflow_cast-first : goal.overflow_cast-first
-overflow_cast-first g c = omega (arith, (sound_of c.args.self.now.question.now.drawing.now).few, c.args.self.now.from)
+pub overflow_cast-queue : goal.overflow_cast-queue
+overflow_cast-queue g c = omega (arith, (sound_of c.args.self.now.question.now.drawing.now).few, c.args.self.now.from)
 
 pub returns-then-self-first-ne0 : goal.returns-then-self-first-ne0
 returns-then-self-first-ne0 g c =
