@@ -16,7 +16,6 @@ pub(crate) struct Frontier<'f, 'd, R, C> {
     queue: &'f mut [QueueSlot],
     len: usize,
     ghost size: { length labels.now ≡ drawn_in ground.now.question.now },
-    ghost within: { len ≤ length queue.now },
     ghost filled: { Filled queue.now len (drawn_in ground.now.question.now) },
     ghost waiting: { (e : ℕ) (d : Label C) → e < length labels.now → in_queue queue.now len e ≡ true → 0 < (slice_index_or labels.now e d).edges },
 }

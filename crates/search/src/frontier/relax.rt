@@ -27,6 +27,7 @@ impl<R: TurnRule, C: CostKind> Frontier<'_, '_, R, C> {
 
     // Relaxes the step from the edge `from` to the edge `to`: an edge that had no walk is labelled and enters the queue, and an edge whose label is worse
     // gets the better one.
+    #[tactic(auto, using(crate::proofs::Slots::filled_within))]
     fn relax(&mut self, from: u16, to: u16)
         requires from { from < length self.old.labels.now }
         requires to { to < length self.old.labels.now }

@@ -10,6 +10,7 @@ impl<R: TurnRule, C: CostKind> Frontier<'_, '_, R, C> {
     ghost use Rattle.search.specs.Stages.{Stays, Takes};
 
     // Takes the edge with the least label out of the queue, by moving the last one to its place; none where no edge waits.
+    #[tactic(auto, using(crate::proofs::Slots::filled_within))]
     pub(super) fn take_least(&mut self) -> Option<u16>
         ensures stays { Stays self.old self.new }
         ensures takes { MatchOption result ((self.old.len ≡ 0) × (self.new ≡ self.old)) (λ e. (e < length self.new.labels.now) × Takes R.TurnRule C.CostKind self.old self.new e) }
@@ -23,6 +24,7 @@ impl<R: TurnRule, C: CostKind> Frontier<'_, '_, R, C> {
     }
 
     // The slot in the queue whose edge has the least cost and, of equal cost, the fewest edges; none where no edge waits.
+    #[tactic(auto, using(crate::proofs::Slots::filled_within))]
     fn least(&self) -> Option<usize>
         ensures value { MatchOption result (self.now.len ≡ 0) (λ i. (i < self.now.len) × Least C.CostKind self.now.labels.now self.now.queue.now self.now.len i) }
     {

@@ -1,4 +1,3 @@
-use Rattle.search.proofs.Slots.{filled_within}
 use Rattle.search.proofs.Steps.{kept_better, kept_new, kept_none, kept_old, room_read, working_read}
 use Rattle.search.proofs.frontier.Frontier.relax.Goals as goal
 
@@ -17,7 +16,7 @@ pub invariant_of-self-then-old-eq0 : goal.invariant_of-self-then-old-eq0
 invariant_of-self-then-old-eq0 g c =
     let s = c.args.self.now in
     let w = working_read g.R.TurnRule g.C.CostKind g.met.C.CostKind.measured s c.args.from c.args.to c.requires.from c.requires.to c.index-self-from.result c.index-self-place.result c.in-Some.new c.in-Some.ensures.some (rw c.from-place.ensures at c.if-old-eq0.true) in
-    record { size = rw c.from-place.ensures w.size; within = filled_within _ _ _ w.filled; filled = w.filled; waiting = rw c.from-place.ensures w.waiting }
+    record { size = rw c.from-place.ensures w.size; filled = w.filled; waiting = rw c.from-place.ensures w.waiting }
 
 pub returns-then-old-eq0-clause-keeps : goal.returns-then-old-eq0-clause-keeps
 returns-then-old-eq0-clause-keeps g c = λ a n x t.

@@ -1,6 +1,5 @@
 use Rattle.std.proofs.Common.{rules}
 use Rattle.search.specs.Stages.{asked_of}
-use Rattle.search.proofs.Slots.{filled_within}
 use Rattle.search.proofs.Steps.{working_of}
 use Rattle.search.proofs.Takes.{taking, working_left}
 use Rattle.search.proofs.frontier.Frontier.take_least.Goals as goal
@@ -9,7 +8,7 @@ pub invariant_of-self : goal.invariant_of-self
 invariant_of-self g c =
     let s = c.args.self.now in
     let w = working_left g.R.TurnRule g.C.CostKind (asked_of s) s.labels.now s.queue.now s.len c.in_ok-at.at (working_of s) c.in_ok-at.ensures.value.0 in
-    record { size = w.size; within = filled_within _ _ _ w.filled; filled = w.filled; waiting = w.waiting }
+    record { size = w.size; filled = w.filled; waiting = w.waiting }
 
 pub returns-clause-takes : goal.returns-clause-takes
 returns-clause-takes g c =
