@@ -1,5 +1,5 @@
 // A search under way: the labels so far, and the queue of the edges that wait.
-ghost use Rattle.std.specs.Prelude.{◌≡◌, ℕ, ◌<◌, ◌≤◌, true, length, slice_index_or};
+ghost use Rattle.std.specs.Prelude.{◌≡◌, ℕ, ◌<◌, true, length, slice_index_or};
 ghost use Rattle.search.specs.Grounds.{drawn_in};
 ghost use Rattle.search.specs.Queues.{Filled, in_queue};
 ghost use Rattle.search.specs.declared.label.Label.{Label};

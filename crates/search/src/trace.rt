@@ -1,5 +1,5 @@
 // Writing the route, from its last edge back to its first.
-ghost use Rattle.std.specs.Prelude.{◌≡◌, ℕ, ◌<◌, List, length as length_of};
+ghost use Rattle.std.specs.Prelude.{◌≡◌, ℕ, List, length as length_of};
 ghost use Rattle.walks.specs.Labels.{Trail};
 
 use crate::ground::Ground;
