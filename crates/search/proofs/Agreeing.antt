@@ -1,14 +1,16 @@
--- Alike questions over equal drawings with the same edges shut have the same outcome.
-use Rattle.std.proofs.Common.{◌≡◌, ℕ, not, List, ◌++◌, length, take, drop, Ok, Err, Result, sym, refl, ap, ◌∙◌, subst, subst₂}
-use Rattle.std.proofs.lemmas.List.{take_at}
+-- Alike questions over equal drawings with the same edges shut have the same outcome; what a search over the first labels answers.
+use Rattle.std.proofs.Common.{◌≡◌, ℕ, ◌≤◌, not, List, ◌++◌, length, take, drop, Some, None, Option, Ok, Err, Result, arith, sym, refl, ap, ◌∙◌, subst, subst₂}
+use Rattle.std.proofs.lemmas.List.{length-take-le, take_at}
+use Rattle.std.proofs.lemmas.Grind.{common_steps}
+use Rattle.std.proofs.lemmas.Bool.Decides.{nat_tests}
 use Rattle.cost.specs.declared.kind.CostKind.{Ghosts as Kind}
 use Rattle.plan.specs.Plans.{edge_at, steps}
 use Rattle.plan.specs.Studies.{Study}
 use Rattle.walks.specs.Networks.{Alike as Matched, Network}
 use Rattle.walks.proofs.Alike.{alike_agree, alike_sym, leads_alike}
 use Rattle.walks.proofs.Routes.{simplest_unique}
-use Rattle.search.specs.Histories.{Agrees, Alike, SameOutcome}
-use Rattle.search.specs.Questions.{Answers, AnswersBy, HasAnswer, Outcome, Question, Searched, ground_at, plan_at}
+use Rattle.search.specs.Histories.{Agrees, Alike, Always, SameOutcome}
+use Rattle.search.specs.Questions.{AllLabelled, Answers, AnswersBy, HasAnswer, Outcome, Question, Searched, checked, fault_by, ground_at, plan_at, question_fault}
 use Rattle.search.specs.declared.answer.Answer.{Answer}
 use Rattle.search.specs.declared.fault.QuestionFault.{QuestionFault}
 use Rattle.search.specs.declared.label.Label.{Label}
@@ -59,3 +61,27 @@ agrees K σ s q labels labels' route route' r answered s₂ q₂ σ₂ labels₂
     let o₂ : Searched K σ₂ s₂ q₂ labels₂ labels₂' route₂ route₂' r₂ = subst (λ o. AnswersBy o K σ₂ s₂ q₂ labels₂ labels₂' route₂ route₂' r₂) none₂ answered₂ in
     let t = subst₂ (λ a z. Outcome K σ₂ (ground_at s₂ q₂) a z route₂ route₂' r₂) alike.first alike.last o₂.outcome in
     same_outcome K σ σ₂ (ground_at s q) (ground_at s₂ q₂) (matched s q σ s₂ q₂ σ₂ alike) alike.settings q.first q.last route route' route₂ route₂' r r₂ o.outcome t
+
+pub always : {C : Type 0} (K : Kind C) (σ : K.Settings) (s : Study) (q : Question) (labels labels' : List (Label C)) (route route' : List ℕ) (r : Result (Answer C) QuestionFault) → Answers K σ s q labels labels' route route' r → Always K σ s q labels labels' route route' r
+always K σ s q labels labels' route route' r answered l rows size h e = subst (λ t. Answers K σ t q labels labels' route route' r) (sym e) answered
+
+-- what a search over the first labels answers
+no_fault : (o : Option QuestionFault) → checked o ≡ Ok tt → o ≡ None
+no_fault None h = refl
+no_fault (Some f) h = cc
+
+fits : (drawn first last sheet labels queue route : ℕ) → fault_by drawn first last sheet labels queue route ≡ None → drawn ≤ labels
+fits drawn first last sheet labels queue route h = grind (arith, nat_tests)
+
+pub searched : {C : Type 0} (K : Kind C) (σ : K.Settings) (s : Study) (q : Question) (labels ls : List (Label C)) (route route' : List ℕ) (r : Result (Answer C) QuestionFault)
+    → checked (question_fault s q) ≡ Ok tt → q.labels ≡ length labels → length ls ≡ length (take (length s.edges) labels)
+    → Outcome K σ (ground_at s q) q.first q.last route route' r → AllLabelled K σ (ground_at s q) q.first ls → Answers K σ s q labels (ls ++ drop (length s.edges) labels) route route' r
+searched K σ s q labels ls route route' r passed count size outcome labelled =
+    let none = no_fault (question_fault s q) passed in
+    let n : length ls ≡ length s.edges = size ∙ length-take-le (length s.edges) labels (omega (arith, fits (length s.edges) q.first q.last (length s.sheet) q.labels q.queue q.route none, count)) in
+    subst (λ o. AnswersBy o K σ s q labels (ls ++ drop (length s.edges) labels) route route' r) (sym none) (record {
+      outcome = outcome;
+      labelled = subst (AllLabelled K σ (ground_at s q) q.first) (sym (take_at ls (drop (length s.edges) labels) (length s.edges) n)) labelled;
+      kept = grind (arith, common_steps);
+      size = grind (arith, common_steps);
+    })

@@ -12,12 +12,12 @@ use Rattle.search.specs.Labels.{Fine, label_in, plain}
 use Rattle.search.specs.Questions.{AllLabelled, Labelled, Outcome}
 use Rattle.search.specs.Stages.{Explored}
 use Rattle.search.specs.Traces.{Traceable, Traced}
-use Rattle.search.specs.declared.question.Question.{Question}
+use Rattle.search.specs.declared.question.Question.{Question as Asking}
 use Rattle.search.specs.declared.label.Label.{Label}
 use Rattle.search.proofs.Marks.{label_read, meaning_none, meaning_some}
 use Rattle.search.proofs.Steps.{Measured}
 
-module _ {R C : Type 0} (T : Rule R) (K : Kind C) (measured : Measured K) (few : (c : C) → K.additions c ≤ 1024) (q : Question R C) (ls : List (Label C)) (found : Explored T K q ls) where
+module _ {R C : Type 0} (T : Rule R) (K : Kind C) (measured : Measured K) (few : (c : C) → K.additions c ≤ 1024) (q : Asking R C) (ls : List (Label C)) (found : Explored T K q ls) where
   abbrev g : Network
   g = net_of T K q
 

@@ -13,7 +13,7 @@ use Rattle.search.specs.Grounds.{drawn_in, net_of, settings_of}
 use Rattle.search.specs.Labels.{Blank, Each, Fine, label_in, plain}
 use Rattle.search.specs.Queues.{Filled, in_queue}
 use Rattle.search.specs.Stages.{Explored, Opens, Searching, Stays, asked_of, labelling, waiting}
-use Rattle.search.specs.declared.question.Question.{Question}
+use Rattle.search.specs.declared.question.Question.{Question as Asking}
 use Rattle.search.specs.declared.frontier.Frontier.{Frontier}
 use Rattle.search.specs.declared.label.Label.{Label}
 use Rattle.search.specs.declared.queue.QueueSlot.{QueueSlot}
@@ -35,60 +35,60 @@ module _ {C : Type 0} (K : Kind C) (s : K.Settings) where
   pub blank_each : (ls : List (Label C)) → Each (Blank K s) ls → Each (Fine K s) ls
   blank_each ls b k d h = blank_fine (get_or ls k d) (b k d h)
 
-module _ {R C : Type 0} (T : Rule R) (K : Kind C) (measured : Measured K) (g : Question R C) (ls : List (Label C)) (slots : List QueueSlot) (size : length ls ≡ drawn_in g) (room : drawn_in g ≤ length slots) (drawn : g.first < length ls) (blank : Each (Blank K (settings_of K g)) ls) where
+module _ {R C : Type 0} (T : Rule R) (K : Kind C) (measured : Measured K) (q : Asking R C) (ls : List (Label C)) (slots : List QueueSlot) (size : length ls ≡ drawn_in q) (room : drawn_in q ≤ length slots) (drawn : q.first < length ls) (blank : Each (Blank K (settings_of K q)) ls) where
   -- a shut first edge
-  certified_shut : (get_or g.sheet.now g.first 0 ≡ 0 → ⊥) → Certified (net_of T K g) g.first (label_in K ls)
+  certified_shut : (get_or q.sheet.now q.first 0 ≡ 0 → ⊥) → Certified (net_of T K q) q.first (label_in K ls)
   certified_shut closed =
-      certified_same (λ e. sym (blank_none K (settings_of K g) ls blank e))
-      (shut_certified (net_of T K g) g.first (λ u. false≢true (sym (ap (λ b. not (not b)) (ne_eqb (get_or g.sheet.now g.first 0) 0 closed)) ∙ u.1)))
+      certified_same (λ e. sym (blank_none K (settings_of K q) ls blank e))
+      (shut_certified (net_of T K q) q.first (λ u. false≢true (sym (ap (λ b. not (not b)) (ne_eqb (get_or q.sheet.now q.first 0) 0 closed)) ∙ u.1)))
 
-  pub explored_shut : (get_or g.sheet.now g.first 0 ≡ 0 → ⊥) → Explored T K g ls
+  pub explored_shut : (get_or q.sheet.now q.first 0 ≡ 0 → ⊥) → Explored T K q ls
   explored_shut closed = record {
-    fine = blank_each K (settings_of K g) ls blank;
-    short = λ e x h. absurd (none_not_some (blank_none K (settings_of K g) ls blank e) h);
+    fine = blank_each K (settings_of K q) ls blank;
+    short = λ e x h. absurd (none_not_some (blank_none K (settings_of K q) ls blank e) h);
     certified = certified_shut closed;
   }
 
-  filled_none : Filled slots 0 (drawn_in g)
+  filled_none : Filled slots 0 (drawn_in q)
   filled_none =
       record {
         room = room;
         once = λ e. omega arith;
         drawn = λ k h. absurd (omega arith);
-        counted = tally_none (in_queue slots 0) (drawn_in g) (λ k _. refl);
+        counted = tally_none (in_queue slots 0) (drawn_in q) (λ k _. refl);
       }
 
-  working_none : Working g ls slots 0
+  working_none : Working q ls slots 0
   working_none =
       record {
         size = size;
         filled = filled_none;
-        waiting = λ e d h q. absurd (false≢true q);
+        waiting = λ e d h waits. absurd (false≢true waits);
       }
 
-  module _ (x : Label C) (opens : Opens K g x) where
+  module _ (x : Label C) (opens : Opens K q x) where
     grown : 0 < x.edges
     grown = omega (arith, opens.edges)
 
-    pub working_start : Working g (set ls g.first x) (put_in slots 0 g.first) (0 + 1)
-    working_start = working_entered T K measured g ls slots 0 working_none x g.first g.first drawn x grown refl
+    pub working_start : Working q (set ls q.first x) (put_in slots 0 q.first) (0 + 1)
+    working_start = working_entered T K measured q ls slots 0 working_none x q.first q.first drawn x grown refl
 
-    pub inv_begun : get_or g.sheet.now g.first 0 ≡ 0 → Inv (net_of T K g) g.first (label_in K (set ls g.first x)) (in_queue (put_in slots 0 g.first) (0 + 1)) 0
+    pub inv_begun : get_or q.sheet.now q.first 0 ≡ 0 → Inv (net_of T K q) q.first (label_in K (set ls q.first x)) (in_queue (put_in slots 0 q.first) (0 + 1)) 0
     inv_begun free =
-        inv_same labels (entered_queue T K measured g ls slots 0 working_none x g.first g.first drawn x grown refl)
-        (inv_start (net_of T K g) g.first (measured (settings_of K g)) (omega (arith, size), ap (λ b. not (not b)) (eq-eqb (get_or g.sheet.now g.first 0) 0 free)))
+        inv_same labels (entered_queue T K measured q ls slots 0 working_none x q.first q.first drawn x grown refl)
+        (inv_start (net_of T K q) q.first (measured (settings_of K q)) (omega (arith, size), ap (λ b. not (not b)) (eq-eqb (get_or q.sheet.now q.first 0) 0 free)))
       where
-        same : plain K x ≡ first_label (net_of T K g) g.first
-        same = label_from_parts (plain K x) (first_label (net_of T K g) g.first) opens.row opens.edges opens.previous
+        same : plain K x ≡ first_label (net_of T K q) q.first
+        same = label_from_parts (plain K x) (first_label (net_of T K q) q.first) opens.row opens.edges opens.previous
 
-        labels : (e : ℕ) → with_label (λ _. None) g.first (first_label (net_of T K g) g.first) e ≡ label_in K (set ls g.first x) e
+        labels : (e : ℕ) → with_label (λ _. None) q.first (first_label (net_of T K q) q.first) e ≡ label_in K (set ls q.first x) e
         labels e =
-            ap (λ m. with_label (λ _. None) g.first m e) (sym same)
-            ∙ ap (λ o. cond (eqb e g.first) (Some (plain K x)) o) (sym (blank_none K (settings_of K g) ls blank e))
-            ∙ label_wrote K ls g.first x drawn grown e
+            ap (λ m. with_label (λ _. None) q.first m e) (sym same)
+            ∙ ap (λ o. cond (eqb e q.first) (Some (plain K x)) o) (sym (blank_none K (settings_of K q) ls blank e))
+            ∙ label_wrote K ls q.first x drawn grown e
 
-pub start_fine : {R C : Type 0} (K : Kind C) (g : Question R C) (ls : List (Label C)) → Each (Blank K (settings_of K g)) ls → (x : Label C) → Fine K (settings_of K g) x → Each (Fine K (settings_of K g)) (set ls g.first x)
-start_fine K g ls blank x fine = each_set (Fine K (settings_of K g)) ls g.first x (blank_each K (settings_of K g) ls blank) fine
+pub start_fine : {R C : Type 0} (K : Kind C) (q : Asking R C) (ls : List (Label C)) → Each (Blank K (settings_of K q)) ls → (x : Label C) → Fine K (settings_of K q) x → Each (Fine K (settings_of K q)) (set ls q.first x)
+start_fine K q ls blank x fine = each_set (Fine K (settings_of K q)) ls q.first x (blank_each K (settings_of K q) ls blank) fine
 
 -- the edges that are not settled yet
 abbrev pub unsettled : {R C : Type 0} → Kind C → Frontier R C → ℕ

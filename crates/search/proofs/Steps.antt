@@ -18,7 +18,7 @@ use Rattle.search.specs.Grounds.{drawn_in, net_of, settings_of}
 use Rattle.search.specs.Labels.{Each, Fine, label_in, plain}
 use Rattle.search.specs.Queues.{Filled, in_queue}
 use Rattle.search.specs.Stages.{Offered, Stays, Turning, asked_of, labelling, waiting}
-use Rattle.search.specs.declared.question.Question.{Question}
+use Rattle.search.specs.declared.question.Question.{Question as Asking}
 use Rattle.search.specs.declared.frontier.Frontier.{Frontier}
 use Rattle.search.specs.declared.label.Label.{Label}
 use Rattle.search.specs.declared.queue.QueueSlot.{QueueSlot}
@@ -27,19 +27,19 @@ use Rattle.search.proofs.Marks.{label_held, label_is, label_read, label_wrote, m
 use Rattle.search.proofs.Slots.{brought_in, filled_more, has_room, put_in}
 
 -- what the type of a search says of its lists
-pub record Working {R C : Type 0} (g : Question R C) (ls : List (Label C)) (slots : List QueueSlot) (len : ℕ) : Type 0 where
-  pub size : length ls ≡ drawn_in g
-  pub filled : Filled slots len (drawn_in g)
+pub record Working {R C : Type 0} (q : Asking R C) (ls : List (Label C)) (slots : List QueueSlot) (len : ℕ) : Type 0 where
+  pub size : length ls ≡ drawn_in q
+  pub filled : Filled slots len (drawn_in q)
   pub waiting : (e : ℕ) (d : Label C) → e < length ls → in_queue slots len e ≡ true → 0 < (get_or ls e d).edges
 
 pub working_of : {R C : Type 0} (s : Frontier R C) → Working (asked_of s) s.labels.now s.queue.now s.len
 working_of s = record { size = s.size; filled = s.filled; waiting = s.waiting }
 
 -- where the steps of e, whose label is x, are relaxed up to the edge k, they are so up to the edge j afterwards
-abbrev pub Relaxes : {R C : Type 0} → Rule R → Kind C → Question R C → List (Label C) → List QueueSlot → ℕ → List (Label C) → List QueueSlot → ℕ → Mark → ℕ → ℕ → ℕ → Type 0
-Relaxes T K g ls slots len ls' slots' len' x e k j =
-    (a n : ℕ) → Relaxing (net_of T K g) a (label_in K ls) (in_queue slots len) n e x k
-    → Relaxing (net_of T K g) a (label_in K ls') (in_queue slots' len') n e x j
+abbrev pub Relaxes : {R C : Type 0} → Rule R → Kind C → Asking R C → List (Label C) → List QueueSlot → ℕ → List (Label C) → List QueueSlot → ℕ → Mark → ℕ → ℕ → ℕ → Type 0
+Relaxes T K q ls slots len ls' slots' len' x e k j =
+    (a n : ℕ) → Relaxing (net_of T K q) a (label_in K ls) (in_queue slots len) n e x k
+    → Relaxing (net_of T K q) a (label_in K ls') (in_queue slots' len') n e x j
 
 -- the same in a turn, for the label that is read
 abbrev pub Kept : {R C : Type 0} → Rule R → Kind C → Frontier R C → List (Label C) → List QueueSlot → ℕ → ℕ → ℕ → ℕ → Type 0
@@ -57,49 +57,49 @@ Measured K = (s : K.Settings) (charge long : ℕ) → length (K.amount s charge 
 step_starts : (p : Plan) (e f : ℕ) → steps p e f ≡ true → (edge_at p f).start ≡ (edge_at p e).end
 step_starts p e f h = grind (arith, nat_tests)
 
-module _ {R C : Type 0} (T : Rule R) (K : Kind C) (measured : Measured K) (g : Question R C) (ls : List (Label C)) (slots : List QueueSlot) (len : ℕ) (w : Working g ls slots len) (x : Label C) (from to : ℕ) (drawn : to < length ls) where
-  even : Even (net_of T K g)
-  even = measured (settings_of K g)
+module _ {R C : Type 0} (T : Rule R) (K : Kind C) (measured : Measured K) (q : Asking R C) (ls : List (Label C)) (slots : List QueueSlot) (len : ℕ) (w : Working q ls slots len) (x : Label C) (from to : ℕ) (drawn : to < length ls) where
+  even : Even (net_of T K q)
+  even = measured (settings_of K q)
 
   -- nothing is offered: no step leads to an open edge, or the walk can not grow
-  pub relaxes_none : (Usable (net_of T K g) to → Step (net_of T K g) from to → 1024 ≤ x.edges) → Relaxes T K g ls slots len ls slots len (plain K x) from to (to + 1)
+  pub relaxes_none : (Usable (net_of T K q) to → Step (net_of T K q) from to → 1024 ≤ x.edges) → Relaxes T K q ls slots len ls slots len (plain K x) from to (to + 1)
   relaxes_none full a n r =
       relax_keep r (λ u s.
-      let few = (sound_of g.drawing.now).few in
+      let few = (sound_of q.drawing.now).few in
       let all = relax_full even r (omega (arith, few, full u s)) (to + 1) in
       all.closed from to (plain K x) r.labelled r.taken (λ _. omega arith) u s)
 
-  drawn_here : to < drawn_in g
+  drawn_here : to < drawn_in q
   drawn_here = omega (arith, w.size)
 
   -- an edge gets its first label and enters the queue
   module _ (new : Label C) (grown : 0 < new.edges) where
     module _ (apart : in_queue slots len to ≡ false) where
       pub room_entered : len < length slots
-      room_entered = omega (arith, has_room slots len (drawn_in g) to w.filled apart drawn_here, w.filled.room)
+      room_entered = omega (arith, has_room slots len (drawn_in q) to w.filled apart drawn_here, w.filled.room)
 
-      pub working_entered : Working g (set ls to new) (put_in slots len to) (len + 1)
+      pub working_entered : Working q (set ls to new) (put_in slots len to) (len + 1)
       working_entered =
           record {
             size = length-set ls to new ∙ w.size;
-            filled = filled_more slots len (drawn_in g) to w.filled apart drawn_here;
-            waiting = λ e d h q.
+            filled = filled_more slots len (drawn_in q) to w.filled apart drawn_here;
+            waiting = λ e d h waits.
                 let l : e < length ls = omega (arith, h, length-set ls to new) in
-                set_at (λ x. 0 < x.edges) ls to new e d l (λ _. grown) (λ p. w.waiting e d l (sym (flag_other (in_queue slots len) to true e p) ∙ brought_in slots len (drawn_in g) to w.filled apart drawn_here e ∙ q));
+                set_at (λ x. 0 < x.edges) ls to new e d l (λ _. grown) (λ p. w.waiting e d l (sym (flag_other (in_queue slots len) to true e p) ∙ brought_in slots len (drawn_in q) to w.filled apart drawn_here e ∙ waits));
           }
 
       pub entered_queue : (e : ℕ) → with_flag (in_queue slots len) to true e ≡ in_queue (put_in slots len to) (len + 1) e
-      entered_queue = brought_in slots len (drawn_in g) to w.filled apart drawn_here
+      entered_queue = brought_in slots len (drawn_in q) to w.filled apart drawn_here
 
     -- an edge gets a better label
-    pub working_rewritten : Working g (set ls to new) slots len
+    pub working_rewritten : Working q (set ls to new) slots len
     working_rewritten =
         record {
           size = length-set ls to new ∙ w.size;
           filled = w.filled;
-          waiting = λ e d h q.
+          waiting = λ e d h waits.
               let l : e < length ls = omega (arith, h, length-set ls to new) in
-              set_at (λ x. 0 < x.edges) ls to new e d l (λ _. grown) (λ _. w.waiting e d l q);
+              set_at (λ x. 0 < x.edges) ls to new e d l (λ _. grown) (λ _. w.waiting e d l waits);
         }
 
   module _ (old new : Label C) (held : old ≡ get_or ls to old) (grown : 0 < new.edges) where
@@ -109,19 +109,19 @@ module _ {R C : Type 0} (T : Rule R) (K : Kind C) (measured : Measured K) (g : Q
       apart = go (cases_Bool (in_queue slots len to))
         where
           go : (in_queue slots len to ≡ true) ⊎ (in_queue slots len to ≡ false) → in_queue slots len to ≡ false
-          go (inl q) = absurd (let h = w.waiting to old drawn q in omega (arith, h, ap (λ (l : Label C). l.edges) held, unlabelled))
-          go (inr q) = q
+          go (inl waits) = absurd (let h = w.waiting to old drawn waits in omega (arith, h, ap (λ (l : Label C). l.edges) held, unlabelled))
+          go (inr waits) = waits
 
       pub room_new : len < length slots
       room_new = room_entered new grown apart
 
-      pub working_new : Working g (set ls to new) (put_in slots len to) (len + 1)
+      pub working_new : Working q (set ls to new) (put_in slots len to) (len + 1)
       working_new = working_entered new grown apart
 
-      pub relaxes_new : Offered T K g x from to new → Relaxes T K g ls slots len (set ls to new) (put_in slots len to) (len + 1) (plain K x) from to (to + 1)
+      pub relaxes_new : Offered T K q x from to new → Relaxes T K q ls slots len (set ls to new) (put_in slots len to) (len + 1) (plain K x) from to (to + 1)
       relaxes_new offered a n r =
           relaxing_same (label_wrote K ls to new drawn grown) (entered_queue new grown apart)
-          (subst (λ m. Relaxing (net_of T K g) a (with_label (label_in K ls) to m) (with_flag (in_queue slots len) to true) n from (plain K x) (to + 1)) (sym offered.value)
+          (subst (λ m. Relaxing (net_of T K q) a (with_label (label_in K ls) to m) (with_flag (in_queue slots len) to true) n from (plain K x) (to + 1)) (sym offered.value)
           (relax_new even r offered.usable offered.step (label_read K ls to old drawn held ∙ meaning_none K old unlabelled)))
 
     -- an edge that has a walk
@@ -129,27 +129,27 @@ module _ {R C : Type 0} (T : Rule R) (K : Kind C) (measured : Measured K) (g : Q
       label_old : label_in K ls to ≡ Some (plain K old)
       label_old = label_read K ls to old drawn held ∙ meaning_some K old labelled
 
-      pub relaxes_old : Offered T K g x from to new → AtMost (plain K old) (plain K new) → Relaxes T K g ls slots len ls slots len (plain K x) from to (to + 1)
+      pub relaxes_old : Offered T K q x from to new → AtMost (plain K old) (plain K new) → Relaxes T K q ls slots len ls slots len (plain K x) from to (to + 1)
       relaxes_old offered h a n r = relax_kept r (plain K old) label_old (subst (AtMost (plain K old)) offered.value h)
 
-      pub relaxes_better : Offered T K g x from to new → LabelLess (plain K new) (plain K old) → Relaxes T K g ls slots len (set ls to new) slots len (plain K x) from to (to + 1)
+      pub relaxes_better : Offered T K q x from to new → LabelLess (plain K new) (plain K old) → Relaxes T K q ls slots len (set ls to new) slots len (plain K x) from to (to + 1)
       relaxes_better offered h a n r =
           relaxing_same (label_wrote K ls to new drawn grown) (λ _. refl)
-          (subst (λ m. Relaxing (net_of T K g) a (with_label (label_in K ls) to m) (in_queue slots len) n from (plain K x) (to + 1)) (sym offered.value)
+          (subst (λ m. Relaxing (net_of T K q) a (with_label (label_in K ls) to m) (in_queue slots len) n from (plain K x) (to + 1)) (sym offered.value)
           (relax_better even r offered.usable offered.step (plain K old) label_old queued less))
         where
-          less : LabelLess (extension (net_of T K g) (plain K x) from to) (plain K old)
+          less : LabelLess (extension (net_of T K q) (plain K x) from to) (plain K old)
           less = subst (λ m. LabelLess m (plain K old)) offered.value h
 
           queued : in_queue slots len to ≡ true
           queued = go (cases_Bool (in_queue slots len to))
             where
               go : (in_queue slots len to ≡ true) ⊎ (in_queue slots len to ≡ false) → in_queue slots len to ≡ true
-              go (inl q) = q
-              go (inr q) =
-                  let s = relax_settled even r (plain K old) label_old q in
+              go (inl waits) = waits
+              go (inr waits) =
+                  let s = relax_settled even r (plain K old) label_old waits in
                   let c = s.closed from to (plain K x) r.labelled r.taken (λ _. omega arith) offered.usable offered.step in
-                  let b = subst (λ m. AtMost m (extension (net_of T K g) (plain K x) from to)) (some_only c.labelled label_old) c.bound in
+                  let b = subst (λ m. AtMost m (extension (net_of T K q) (plain K x) from to)) (some_only c.labelled label_old) c.bound in
                   let z = less_at_most _ (plain K old) _ less b in
                   absurd (label_less_asym _ _ z z)
 

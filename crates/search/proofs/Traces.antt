@@ -12,7 +12,7 @@ use Rattle.plan.specs.Plans.{edge_at, plan_of}
 use Rattle.search.specs.Grounds.{drawn_in, net_of}
 use Rattle.search.specs.Labels.{label_in, plain}
 use Rattle.search.specs.Traces.{Traced}
-use Rattle.search.specs.declared.question.Question.{Question}
+use Rattle.search.specs.declared.question.Question.{Question as Asking}
 use Rattle.search.specs.declared.label.Label.{Label}
 use Rattle.search.proofs.Adds.{any_long}
 use Rattle.search.proofs.Marks.{label_is}
@@ -146,28 +146,28 @@ module _ (g : Network) (L : Labelling) (last : ℕ) (before : List ℕ) (at plac
         lengths = omega (arith, i.total, ap (lengths g) z, lengths_walk g last i.whole);
       })
 
-module _ {R C : Type 0} (T : Rule R) (K : Kind C) (g : Question R C) (ls : List (Label C)) where
+module _ {R C : Type 0} (T : Rule R) (K : Kind C) (q : Asking R C) (ls : List (Label C)) where
   -- a label on the way holds what its trail says
-  pub trail_plain : (z : ℕ) (t : List ℕ) (x : Label C) → Trail (net_of T K g) (label_in K ls) z t → z < length ls → x ≡ get_or ls z x → label_in K ls z ≡ Some (plain K x)
+  pub trail_plain : (z : ℕ) (t : List ℕ) (x : Label C) → Trail (net_of T K q) (label_in K ls) z t → z < length ls → x ≡ get_or ls z x → label_in K ls z ≡ Some (plain K x)
   trail_plain z t x h drawn reads =
-      let p = trail_label (net_of T K g) (label_in K ls) z t h in
-      p ∙ ap Some (label_is K ls z x (back_label (net_of T K g) z t) drawn reads p)
+      let p = trail_label (net_of T K q) (label_in K ls) z t h in
+      p ∙ ap Some (label_is K ls z x (back_label (net_of T K q) z t) drawn reads p)
 
-  pub trail_count : (z : ℕ) (t : List ℕ) (x : Label C) → Trail (net_of T K g) (label_in K ls) z t → z < length ls → x ≡ get_or ls z x → x.edges ≡ length t + 1
-  trail_count z t x h drawn reads = trail_edges (net_of T K g) (label_in K ls) z t (plain K x) h (trail_plain z t x h drawn reads)
+  pub trail_count : (z : ℕ) (t : List ℕ) (x : Label C) → Trail (net_of T K q) (label_in K ls) z t → z < length ls → x ≡ get_or ls z x → x.edges ≡ length t + 1
+  trail_count z t x h drawn reads = trail_edges (net_of T K q) (label_in K ls) z t (plain K x) h (trail_plain z t x h drawn reads)
 
-  module _ (last : ℕ) (before : List ℕ) (at place : ℕ) (route : List ℕ) (charge long : ℕ) (i : Tracing (net_of T K g) (label_in K ls) last before at place route charge long) (some : 0 < place) (drawn : at < length ls) (x : Label C) (reads : x ≡ get_or ls at x) where
+  module _ (last : ℕ) (before : List ℕ) (at place : ℕ) (route : List ℕ) (charge long : ℕ) (i : Tracing (net_of T K q) (label_in K ls) last before at place route charge long) (some : 0 < place) (drawn : at < length ls) (x : Label C) (reads : x ≡ get_or ls at x) where
     marked : label_in K ls at ≡ Some (plain K x)
     marked = trail_plain at i.rest x i.here drawn reads
 
-    pub tracing_again : Tracing (net_of T K g) (label_in K ls) last before x.previous (place - 1) (set route place at) (charge + T.charge g.rule.now (plan_of g.drawing.now) x.previous at) (long + (edge_at (plan_of g.drawing.now) x.previous).length)
-    tracing_again = tracing_more (net_of T K g) (label_in K ls) last before at place route charge long i (plain K x) some marked
+    pub tracing_again : Tracing (net_of T K q) (label_in K ls) last before x.previous (place - 1) (set route place at) (charge + T.charge q.rule.now (plan_of q.drawing.now) x.previous at) (long + (edge_at (plan_of q.drawing.now) x.previous).length)
+    tracing_again = tracing_more (net_of T K q) (label_in K ls) last before at place route charge long i (plain K x) some marked
 
-    pub previous_drawn : x.previous < drawn_in g
-    previous_drawn = (trail_usable (net_of T K g) (label_in K ls) x.previous tracing_again.rest tracing_again.here).0
+    pub previous_drawn : x.previous < drawn_in q
+    previous_drawn = (trail_usable (net_of T K q) (label_in K ls) x.previous tracing_again.rest tracing_again.here).0
 
-    pub charge_fits : ((e f : ℕ) → T.charge g.rule.now (plan_of g.drawing.now) e f ≤ 1000) → charge + T.charge g.rule.now (plan_of g.drawing.now) x.previous at ≤ 1024000
-    charge_fits small = tracing_charge (net_of T K g) (label_in K ls) last before at place route charge long i 1000 small (plain K x) some marked
+    pub charge_fits : ((e f : ℕ) → T.charge q.rule.now (plan_of q.drawing.now) e f ≤ 1000) → charge + T.charge q.rule.now (plan_of q.drawing.now) x.previous at ≤ 1024000
+    charge_fits small = tracing_charge (net_of T K q) (label_in K ls) last before at place route charge long i 1000 small (plain K x) some marked
 
-    pub long_fits : long + (edge_at (plan_of g.drawing.now) x.previous).length ≤ 102500000
-    long_fits = tracing_long (net_of T K g) (label_in K ls) last before at place route charge long i 100000 (any_long g.drawing.now) (plain K x) some marked
+    pub long_fits : long + (edge_at (plan_of q.drawing.now) x.previous).length ≤ 102500000
+    long_fits = tracing_long (net_of T K q) (label_in K ls) last before at place route charge long i 100000 (any_long q.drawing.now) (plain K x) some marked

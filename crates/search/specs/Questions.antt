@@ -3,6 +3,7 @@
 -- Glossary
 --   Question                what a question brings: its first and its last edge, the lengths of its labels, queue and route list, the charges of its turn
 --                           rule for a plan and two edges, and the places and amounts of its kind of cost under its settings
+--   Asking                  a question as it is brought, with the drawing and the sheet that it is asked over
 --   plan_at s               the plan of the study s
 --   ground_at s q           the network that the question q is asked over in the study s: charges read the whole plan, shut edges too
 --   question_fault s q      why the question is turned down before any search: 8 for the first edge, then for the last; 10 where the sheet, the labels, the

@@ -1,6 +1,7 @@
 -- What the steps of a search promise each other.
 --
 -- Glossary
+--   Asking                 a question as it is brought
 --   Frontier               a search under way: its ground, the labels so far, and the queue of the edges that wait
 --   asked_of s             the question of the search s
 --   labelling K s          what its labels hold for an edge
@@ -24,11 +25,11 @@ use Rattle.walks.specs.Loop.{Inv, Relaxing}
 use Rattle.search.specs.Grounds.{drawn_in, net_of, settings_of}
 use Rattle.search.specs.Labels.{Each, Fine, Short, label_in, plain}
 use Rattle.search.specs.Queues.{in_queue}
-use Rattle.search.specs.declared.question.Question.{Question}
+use Rattle.search.specs.declared.question.Question.{Question as Asking}
 use Rattle.search.specs.declared.frontier.Frontier.{Frontier}
 use Rattle.search.specs.declared.label.Label.{Label}
 
-abbrev pub asked_of : {R C : Type 0} → Frontier R C → Question R C
+abbrev pub asked_of : {R C : Type 0} → Frontier R C → Asking R C
 asked_of s = s.ground.now.question.now
 
 abbrev pub labelling : {R C : Type 0} → Kind C → Frontier R C → ℕ → Option Mark
@@ -55,17 +56,17 @@ Keeps T K s s' e k j = (a n : ℕ) (x : Mark) → Turning T K s a n e x k → Tu
 abbrev pub Takes : {R C : Type 0} → Rule R → Kind C → Frontier R C → Frontier R C → ℕ → Type 0
 Takes T K s s' e = (a n : ℕ) → Searching T K s a n → (x : Mark) × Turning T K s' a (n + 1) e x 0
 
-pub record Explored {R C : Type 0} (T : Rule R) (K : Kind C) (q : Question R C) (ls : List (Label C)) : Type 0 where
+pub record Explored {R C : Type 0} (T : Rule R) (K : Kind C) (q : Asking R C) (ls : List (Label C)) : Type 0 where
   pub fine : Each (Fine K (settings_of K q)) ls
   pub short : Short K ls (drawn_in q)
   pub certified : Certified (net_of T K q) q.first (label_in K ls)
 
-pub record Opens {R C : Type 0} (K : Kind C) (q : Question R C) (x : Label C) : Type 0 where
+pub record Opens {R C : Type 0} (K : Kind C) (q : Asking R C) (x : Label C) : Type 0 where
   pub row : K.row x.cost ≡ K.amount (settings_of K q) 0 (edge_at (plan_of q.drawing.now) q.first).length
   pub edges : x.edges ≡ 1
   pub previous : x.previous ≡ none
 
-pub record Offered {R C : Type 0} (T : Rule R) (K : Kind C) (q : Question R C) (x : Label C) (e f : ℕ) (y : Label C) : Type 0 where
+pub record Offered {R C : Type 0} (T : Rule R) (K : Kind C) (q : Asking R C) (x : Label C) (e f : ℕ) (y : Label C) : Type 0 where
   pub usable : Usable (net_of T K q) f
   pub step : Step (net_of T K q) e f
   pub value : plain K y ≡ extension (net_of T K q) (plain K x) e f

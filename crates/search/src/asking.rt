@@ -33,18 +33,6 @@ pub fn ask<R: TurnRule, C: CostKind>(
     ensures always { Always C.CostKind (settings_of C.CostKind question.now) (study_of question.now.drawing.now question.now.sheet.now) (asked R.TurnRule C.CostKind question.now (length labels.old) (length queue.old) (length route.old)) labels.old labels.new route.old route.new result }
     ensures agrees { Agrees C.CostKind (settings_of C.CostKind question.now) (study_of question.now.drawing.now question.now.sheet.now) (asked R.TurnRule C.CostKind question.now (length labels.old) (length queue.old) (length route.old)) route.new result }
 {
-    answer(question, labels, queue, route)
-}
-
-// The checks, and then the search over the labels of the drawn edges.
-fn answer<R: TurnRule, C: CostKind>(
-    question: &Question<'_, '_, R, C>,
-    labels: &mut [Label<C>],
-    queue: &mut [QueueSlot],
-    route: &mut [u16],
-) -> Result<Answer<C>, QuestionFault>
-    ensures answers { Answers C.CostKind (settings_of C.CostKind question.now) (study_of question.now.drawing.now question.now.sheet.now) (asked R.TurnRule C.CostKind question.now (length labels.old) (length queue.old) (length route.old)) labels.old labels.new route.old route.new result }
-{
     question.check(labels.len(), queue.len(), route.len())?;
     let drawn = question.drawing.edges().len();
     let ground = Ground { question };

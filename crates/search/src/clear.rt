@@ -13,7 +13,5 @@ pub(crate) fn clear<C: CostKind>(labels: &mut [Label<C>], cost: &C)
         edges: 0,
         previous: NO_EDGE,
     };
-    for label in labels.iter_mut() {
-        *label = blank;
-    }
+    labels.fill_with(|| blank);
 }

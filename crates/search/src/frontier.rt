@@ -1,5 +1,5 @@
 // A search under way: the labels so far, and the queue of the edges that wait.
-ghost use Rattle.std.specs.Prelude.{◌≡◌, ℕ, ◌<◌, ◌≤◌, true, length, slice_index_or};
+ghost use Rattle.std.specs.Prelude.{◌≡◌, ℕ, ◌<◌, true, length, slice_index_or};
 ghost use Rattle.search.specs.Grounds.{drawn_in};
 ghost use Rattle.search.specs.Queues.{Filled, in_queue};
 ghost use Rattle.search.specs.declared.label.Label.{Label};
@@ -16,7 +16,6 @@ pub(crate) struct Frontier<'f, 'd, R, C> {
     queue: &'f mut [QueueSlot],
     len: usize,
     ghost size: { length labels.now ≡ drawn_in ground.now.question.now },
-    ghost within: { len ≤ length queue.now },
     ghost filled: { Filled queue.now len (drawn_in ground.now.question.now) },
     ghost waiting: { (e : ℕ) (d : Label C) → e < length labels.now → in_queue queue.now len e ≡ true → 0 < (slice_index_or labels.now e d).edges },
 }

@@ -19,15 +19,18 @@ impl<R: TurnRule, C: CostKind> Ground<'_, '_, R, C> {
         ensures some { IfSome result (λ y. 0 < y.edges) }
     {
         let question = self.question;
-        if question.sheet[to as usize] != 0
-            || question.drawing.step(from as u32, to as u32).is_none()
+        if question.sheet[usize::from(to)] != 0
+            || question
+                .drawing
+                .step(u32::from(from), u32::from(to))
+                .is_none()
         {
             return None;
         }
         let charge = question
             .rule
-            .charge(question.drawing, from as u32, to as u32);
-        let length = question.drawing.edges()[to as usize].length;
+            .charge(question.drawing, u32::from(from), u32::from(to));
+        let length = question.drawing.edges()[usize::from(to)].length;
         let cost = x.cost.add(charge, length)?;
         Some(Label {
             cost,

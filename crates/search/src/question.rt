@@ -13,7 +13,7 @@ pub struct Question<'q, 'd, R, C> {
     pub sheet: &'q [u8],
     /// The turn rule.
     pub rule: &'q R,
-    /// The cost. Only its settings are read.
+    /// What is added up: a cost, of which only the settings are read.
     pub cost: &'q C,
     /// The first edge of the walk.
     pub first: u32,

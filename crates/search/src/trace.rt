@@ -1,5 +1,5 @@
 // Writing the route, from its last edge back to its first.
-ghost use Rattle.std.specs.Prelude.{◌≡◌, ℕ, ◌<◌, List, length as length_of};
+ghost use Rattle.std.specs.Prelude.{◌≡◌, ℕ, List, length as length_of};
 ghost use Rattle.walks.specs.Labels.{Trail};
 
 use crate::ground::Ground;
@@ -21,19 +21,21 @@ impl<R: TurnRule, C: CostKind> Ground<'_, '_, R, C> {
     {
         let question = self.question;
         let edges = question.drawing.edges();
-        let last = question.last as u16;
-        let ending = labels[last as usize];
-        let mut at = last;
+        let last = question.last as usize;
+        let ending = labels[last];
+        let mut at = question.last as u16;
         let mut charge = 0;
-        let mut length = edges[last as usize].length;
+        let mut length = edges[last].length;
         for place in (1..ending.edges as usize).rev() {
             route[place] = at;
-            let reached = labels[at as usize];
-            charge += question
-                .rule
-                .charge(question.drawing, reached.previous as u32, at as u32);
+            let reached = labels[usize::from(at)];
+            charge += question.rule.charge(
+                question.drawing,
+                u32::from(reached.previous),
+                u32::from(at),
+            );
             at = reached.previous;
-            length += edges[at as usize].length;
+            length += edges[usize::from(at)].length;
         }
         route[0] = at;
         (charge, length)

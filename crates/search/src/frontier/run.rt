@@ -20,13 +20,15 @@ impl<R: TurnRule, C: CostKind> Ground<'_, '_, R, C> {
         requires room { drawn_in self.now.question.now ≤ length queue.old }
         ensures explored { Explored R.TurnRule C.CostKind self.now.question.now labels.new }
     {
-        let first = self.question.first as u16;
+        let first = self.question.first as usize;
         clear(labels, self.question.cost);
-        if self.question.sheet[first as usize] != 0 {
+        if self.question.sheet[first] != 0 {
             return;
         }
-        labels[first as usize] = self.opening();
-        queue[0] = QueueSlot { edge: first };
+        labels[first] = self.opening();
+        queue[0] = QueueSlot {
+            edge: self.question.first as u16,
+        };
         let mut search = Frontier {
             ground: self,
             labels,
@@ -63,8 +65,7 @@ impl<R: TurnRule, C: CostKind> Frontier<'_, '_, R, C> {
         ensures stays { Stays self.old self.new }
         ensures explored { Explored R.TurnRule C.CostKind (asked_of self.old) self.new.labels.now }
     {
-        while self.len > 0 {
-            let edge = self.take_least();
+        while let Some(edge) = self.take_least() {
             self.relax_all(edge);
         }
     }

@@ -24,7 +24,7 @@ loop-to-preserved g c =
         stays,
         λ a n x t.
             let r = kept_apart g.R.TurnRule g.C.CostKind g.met.C.CostKind.measured s c.args.from c.loop-to.to (omega (arith, c.requires.drawn, c.args.self.now.size, ap length c.edges-edges.ensures.value, count, s.size)) (omega (arith, count, s.size))
-            (subst (λ rows. (get_or rows c.loop-to.to no_row).start ≡ (get_or rows c.args.from no_row).end → ⊥) rows w.if-row-end.false) a n x (c.loop-to.invariant.1 a n x t) in
+            (subst (λ rows. (get_or rows c.loop-to.to no_row).start ≡ (get_or rows c.args.from no_row).end → ⊥) rows (rw c.from.ensures at w.if-row-end.false)) a n x (c.loop-to.invariant.1 a n x t) in
             record { fine = r.0; relaxing = r.1 },
       )
     ]

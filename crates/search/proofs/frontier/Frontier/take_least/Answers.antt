@@ -1,5 +1,5 @@
+use Rattle.std.proofs.Common.{rules}
 use Rattle.search.specs.Stages.{asked_of}
-use Rattle.search.proofs.Slots.{filled_within}
 use Rattle.search.proofs.Steps.{working_of}
 use Rattle.search.proofs.Takes.{taking, working_left}
 use Rattle.search.proofs.frontier.Frontier.take_least.Goals as goal
@@ -7,11 +7,14 @@ use Rattle.search.proofs.frontier.Frontier.take_least.Goals as goal
 pub invariant_of-self : goal.invariant_of-self
 invariant_of-self g c =
     let s = c.args.self.now in
-    let w = working_left g.R.TurnRule g.C.CostKind (asked_of s) s.labels.now s.queue.now s.len c.least-at.result (working_of s) c.least-at.ensures.bound in
-    record { size = w.size; within = filled_within _ _ _ w.filled; filled = w.filled; waiting = w.waiting }
+    let w = working_left g.R.TurnRule g.C.CostKind (asked_of s) s.labels.now s.queue.now s.len c.in_ok-at.at (working_of s) c.in_ok-at.ensures.value.0 in
+    record { size = w.size; filled = w.filled; waiting = w.waiting }
 
 pub returns-clause-takes : goal.returns-clause-takes
-returns-clause-takes g c = λ a n i.
-    let s = c.args.self.now in
-    let r = taking g.R.TurnRule g.C.CostKind (asked_of s) s.labels.now s.queue.now s.len c.least-at.result (working_of s) c.least-at.ensures.bound c.least-at.ensures.value a n i.inv in
-    (r.0, record { fine = i.fine; relaxing = r.1 })
+returns-clause-takes g c =
+    let s = c.args.self.now in (
+      search rules,
+      λ a n i.
+          let r = taking g.R.TurnRule g.C.CostKind (asked_of s) s.labels.now s.queue.now s.len c.in_ok-at.at (working_of s) c.in_ok-at.ensures.value.0 c.in_ok-at.ensures.value.1 a n i.inv in
+          (r.0, record { fine = i.fine; relaxing = r.1 }),
+    )
