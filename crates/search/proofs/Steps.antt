@@ -91,17 +91,6 @@ module _ {R C : Type 0} (T : Rule R) (K : Kind C) (measured : Measured K) (q : A
       pub entered_queue : (e : ℕ) → with_flag (in_queue slots len) to true e ≡ in_queue (put_in slots len to) (len + 1) e
       entered_queue = brought_in slots len (drawn_in q) to w.filled apart drawn_here
 
-    -- an edge gets a better label
-    pub working_rewritten : Working q (set ls to new) slots len
-    working_rewritten =
-        record {
-          size = length-set ls to new ∙ w.size;
-          filled = w.filled;
-          waiting = λ e d h waits.
-              let l : e < length ls = omega (arith, h, length-set ls to new) in
-              set_at (λ x. 0 < x.edges) ls to new e d l (λ _. grown) (λ _. w.waiting e d l waits);
-        }
-
   module _ (old new : Label C) (held : old ≡ get_or ls to old) (grown : 0 < new.edges) where
     -- an edge that had no walk
     module _ (unlabelled : old.edges ≡ 0) where
@@ -188,9 +177,6 @@ module _ {R C : Type 0} (T : Rule R) (K : Kind C) (measured : Measured K) (s : F
 
     pub working_read : old.edges ≡ 0 → Working (asked_of s) (set s.labels.now to new) (put_in s.queue.now s.len to) (s.len + 1)
     working_read = working_new T K measured (asked_of s) s.labels.now s.queue.now s.len (working_of s) x from to drawn old new held grown
-
-    pub working_better : Working (asked_of s) (set s.labels.now to new) s.queue.now s.len
-    working_better = working_rewritten T K measured (asked_of s) s.labels.now s.queue.now s.len (working_of s) x from to drawn new grown
 
     module _ (offered : IsFine → Offered T K (asked_of s) x from to new) where
       still : IsFine → AllFine s.labels.now → AllFine (set s.labels.now to new)
