@@ -23,5 +23,7 @@ returns-in-Ok-clause-labels c =
     worked_kind q _ _ _ c.args.work.now _ Weighted c.in-Weighted.is (
       subst (λ (σ : Weights). Leaves weighted_kind σ (study_of q.drawing.now q.sheet.now) (by_rule q.rule.now 1 (weighted_amount σ) q.first q.last (length c.args.work.now.weighted.now) (length c.args.queue.now) (length c.args.route.now)) c.args.work.now.weighted.now c.tell-in-Weighted.new.labels)
           c.in-Ok.ensures.same c.tell-in-Weighted.ensures.labels,
-      refl, refl, refl,
+      refl,
+      refl,
+      refl,
     )
