@@ -1,7 +1,7 @@
 -- How faults compare.
 --
 -- Glossary
---   compared   what the derived `==` of faults answers
+--   compared   what `==` of faults answers
 -- Assumes nothing.
 use Rattle.std.specs.Prelude.{◌≡◌, refl}
 use Rattle.cost.specs.Faults.{same_fault}

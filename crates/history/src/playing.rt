@@ -2,7 +2,7 @@
 ghost use Rattle.std.specs.Prelude.{◌≡◌, List, length};
 ghost use Rattle.turns.specs.Sectors.{limits_of};
 ghost use Rattle.plan.specs.Plans.{Over, lender_of};
-ghost use Rattle.plan.specs.Studies.{begun, study_of};
+ghost use Rattle.plan.specs.Studies.{begun, next, study_of};
 ghost use Rattle.plan.specs.declared.row.EdgeRow.{EdgeRow};
 ghost use Rattle.search.specs.Histories.{after_calls};
 ghost use Rattle.search.specs.Questions.{asked_by};
@@ -10,7 +10,7 @@ ghost use Rattle.history.specs.Replays.{Replayed, ReplayedByRun, Run, calls_of, 
 
 use crate::call::Call;
 use cost::CostKind;
-use plan::{Drawing, EdgeRow, apply};
+use plan::{Change, Drawing, EdgeRow, apply};
 use rules::TurnRule;
 use search::{Answer, Label, Question, QuestionFault, QueueSlot, ask};
 use turns::Sectors;
@@ -70,9 +70,7 @@ fn make_calls<R: TurnRule, C: CostKind>(
 {
     for call in calls {
         match call {
-            Call::Change(change) => {
-                let _ = apply(drawing, sheet, *change);
-            }
+            Call::Change(change) => make_change(drawing, sheet, *change),
             Call::Ask {
                 first,
                 last,
@@ -91,4 +89,13 @@ fn make_calls<R: TurnRule, C: CostKind>(
             }
         }
     }
+}
+
+// Makes a change, and lets its answer go. A refused one changes nothing.
+fn make_change(drawing: &mut Drawing<'_>, sheet: &mut [u8], change: Change)
+    ensures after { study_of drawing.new sheet.new ≡ next (study_of drawing.old sheet.old) change }
+    ensures lender { lender_of drawing.new ≡ lender_of drawing.old }
+    ensures rows { (all : List EdgeRow) → Over all drawing.old → Over all drawing.new }
+{
+    let _ = apply(drawing, sheet, change);
 }

@@ -7,17 +7,9 @@ use Rattle.std.proofs.lemmas.Bool.{cases_Bool, cases_eq, cases_lt, eq-eqb, eqb-t
 use Rattle.walks.specs.Loop.{tally, with_flag}
 use Rattle.walks.proofs.Loop.{flag_same, flag_other}
 use Rattle.walks.proofs.Tally.{tally_bound, tally_same, tally_more, tally_short}
-use Rattle.search.specs.Queues.{Filled, edge_in, holds, in_queue, no_slot, times}
+use Rattle.search.specs.Queues.{Filled, edge_in, holds, in_queue, moved_up, no_slot, put_in, times}
 use Rattle.search.specs.declared.queue.QueueSlot.{QueueSlot}
 use Rattle.search.proofs.Eaches.{set_at}
-
--- the slots after that at m was copied to the place `at`
-abbrev pub moved_up : List QueueSlot → ℕ → ℕ → List QueueSlot
-moved_up slots m at = set slots at (get_or slots m no_slot)
-
--- the slots after f was written behind the first len
-abbrev pub put_in : List QueueSlot → ℕ → ℕ → List QueueSlot
-put_in slots len f = set slots len (record { edge = f })
 
 abbrev one_at : ℕ → ℕ → ℕ
 one_at e f = cond (eqb f e) 1 0

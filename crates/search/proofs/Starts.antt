@@ -11,7 +11,7 @@ use Rattle.walks.proofs.Options.{none_not_some}
 use Rattle.walks.proofs.Tally.{tally_none}
 use Rattle.search.specs.Grounds.{drawn_in, net_of, settings_of}
 use Rattle.search.specs.Labels.{Blank, Each, Fine, label_in, plain}
-use Rattle.search.specs.Queues.{Filled, in_queue}
+use Rattle.search.specs.Queues.{Filled, in_queue, put_in}
 use Rattle.search.specs.Stages.{Explored, Opens, Searching, Stays, asked_of, labelling, waiting}
 use Rattle.search.specs.declared.question.Question.{Question as Asking}
 use Rattle.search.specs.declared.frontier.Frontier.{Frontier}
@@ -19,7 +19,6 @@ use Rattle.search.specs.declared.label.Label.{Label}
 use Rattle.search.specs.declared.queue.QueueSlot.{QueueSlot}
 use Rattle.search.proofs.Eaches.{each_set}
 use Rattle.search.proofs.Marks.{label_wrote, meaning_none}
-use Rattle.search.proofs.Slots.{put_in}
 use Rattle.search.proofs.Steps.{Measured, Working, entered_queue, working_entered}
 
 module _ {C : Type 0} (K : Kind C) (s : K.Settings) where

@@ -16,7 +16,7 @@ use Rattle.walks.proofs.Options.{some_only}
 use Rattle.walks.proofs.Relax.{relax_better, relax_full, relax_keep, relax_kept, relax_new, relax_settled}
 use Rattle.search.specs.Grounds.{drawn_in, net_of, settings_of}
 use Rattle.search.specs.Labels.{Each, Fine, label_in, plain}
-use Rattle.search.specs.Queues.{Filled, in_queue}
+use Rattle.search.specs.Queues.{Filled, in_queue, put_in}
 use Rattle.search.specs.Stages.{Offered, Stays, Turning, asked_of, labelling, waiting}
 use Rattle.search.specs.declared.question.Question.{Question as Asking}
 use Rattle.search.specs.declared.frontier.Frontier.{Frontier}
@@ -24,7 +24,7 @@ use Rattle.search.specs.declared.label.Label.{Label}
 use Rattle.search.specs.declared.queue.QueueSlot.{QueueSlot}
 use Rattle.search.proofs.Eaches.{each_set, set_at}
 use Rattle.search.proofs.Marks.{label_held, label_is, label_read, label_wrote, meaning_none, meaning_some}
-use Rattle.search.proofs.Slots.{brought_in, filled_more, has_room, put_in}
+use Rattle.search.proofs.Slots.{brought_in, filled_more, has_room}
 
 -- what the type of a search says of its lists
 pub record Working {R C : Type 0} (q : Asking R C) (ls : List (Label C)) (slots : List QueueSlot) (len : ℕ) : Type 0 where

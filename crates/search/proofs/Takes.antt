@@ -9,14 +9,14 @@ use Rattle.walks.specs.Loop.{Inv, Relaxing}
 use Rattle.walks.proofs.Loop.{flag_kept, inv_take, relaxing_done, relaxing_same}
 use Rattle.search.specs.Grounds.{drawn_in, net_of}
 use Rattle.search.specs.Labels.{plain, label_in}
-use Rattle.search.specs.Queues.{Least, edge_in, in_queue}
+use Rattle.search.specs.Queues.{Least, edge_in, in_queue, moved_up}
 use Rattle.search.specs.Stages.{Keeps, Searching, Takes, asked_of}
 use Rattle.search.specs.declared.frontier.Frontier.{Frontier}
 use Rattle.search.specs.declared.question.Question.{Question as Asking}
 use Rattle.search.specs.declared.label.Label.{Label}
 use Rattle.search.specs.declared.queue.QueueSlot.{QueueSlot}
 use Rattle.search.proofs.Marks.{label_held, label_is, label_read, meaning_some}
-use Rattle.search.proofs.Slots.{filled_less, filled_within, moved_up, slot_of, standing, taken_out}
+use Rattle.search.proofs.Slots.{filled_less, filled_within, slot_of, standing, taken_out}
 use Rattle.search.proofs.Steps.{Working}
 
 module _ {R C : Type 0} (T : Rule R) (K : Kind C) (q : Asking R C) (ls : List (Label C)) (slots : List QueueSlot) (m at : ℕ) (w : Working q ls slots (m + 1)) (within : m + 1 ≤ length slots) (there : at < m + 1) where

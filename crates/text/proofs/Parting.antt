@@ -6,7 +6,7 @@ use Rattle.std.proofs.lemmas.List.Quantifiers.{position-Some}
 use Rattle.std.proofs.lemmas.List.Sums.{fails_before_first}
 use Rattle.std.proofs.lemmas.Bool.Decides.{nat_tests}
 use Rattle.std.proofs.lemmas.Bool.{cases_Bool, ne_eqb, eq-eqb, eqb-false, eqb-true}
-use Rattle.text.specs.Pieces.{Alone, Fields, Lacks, Leads, grown, joined, pieces, split}
+use Rattle.text.specs.Pieces.{Alone, Fields, Lacks, Leads, grown, joined, lines_of, pieces, split}
 
 module _ (m : ℕ) where
   lacks_first : (x : ℕ) (xs : List ℕ) → Lacks m (x ∷ xs) → eqb x m ≡ false
@@ -93,3 +93,16 @@ split_fields (b ∷ bytes) = go (cases_Bool (eqb b 9)) (split_fields bytes)
           clean = lacks_grown 9 b (split bytes) e h.clean;
           whole = ap (λ x. b ∷ x) h.whole ∙ sym (joined_grown b (split bytes));
         })
+
+-- a log has no more lines than bytes
+grown_few : (b : ℕ) (ps : List (List ℕ)) → length (grown b ps) ≤ length ps + 1
+grown_few b [] = omega arith
+grown_few b (p ∷ ps) = omega arith
+
+pub lines_few : (bytes : List ℕ) → length (lines_of bytes) ≤ length bytes
+lines_few [] = omega arith
+lines_few (b ∷ bytes) = go (cases_Bool (eqb b 10)) (lines_few bytes)
+  where
+    go : (eqb b 10 ≡ true) ⊎ (eqb b 10 ≡ false) → length (lines_of bytes) ≤ length bytes → length (lines_of (b ∷ bytes)) ≤ length (b ∷ bytes)
+    go (inl e) h = rw e (omega arith)
+    go (inr e) h = rw e (omega (arith, grown_few b (lines_of bytes)))

@@ -8,7 +8,7 @@ use rules::TurnRule;
 
 impl<R: TurnRule, C: CostKind> Frontier<'_, '_, R, C> {
     ghost use Rattle.search.specs.Grounds.{drawn_in};
-    ghost use Rattle.search.specs.Stages.{Keeps, Stays, asked_of};
+    ghost use Rattle.search.specs.Stages.{Keeps, PutIn, Stays, asked_of};
 
     // Relaxes every step out of the edge `from`.
     pub(super) fn relax_all(&mut self, from: u16)
@@ -33,6 +33,7 @@ impl<R: TurnRule, C: CostKind> Frontier<'_, '_, R, C> {
         requires to { to < length self.old.labels.now }
         ensures stays { Stays self.old self.new }
         ensures keeps { Keeps R.TurnRule C.CostKind self.old self.new from to (to + 1) }
+        ensures slots { PutIn self.old self.new to }
     {
         let place = usize::from(to);
         let x = self.labels[usize::from(from)];

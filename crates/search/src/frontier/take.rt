@@ -1,5 +1,5 @@
 // Taking the edge with the least label out of the queue.
-ghost use Rattle.std.specs.Prelude.{◌≡◌, ◌<◌, length, MatchOption};
+ghost use Rattle.std.specs.Prelude.{◌≡◌, ◌<◌, length, IfSome, MatchOption};
 
 use crate::frontier::Frontier;
 use cost::CostKind;
@@ -7,13 +7,14 @@ use rules::TurnRule;
 
 impl<R: TurnRule, C: CostKind> Frontier<'_, '_, R, C> {
     ghost use Rattle.search.specs.Queues.{Least};
-    ghost use Rattle.search.specs.Stages.{Stays, Takes};
+    ghost use Rattle.search.specs.Stages.{Stays, TakenOut, Takes};
 
     // Takes the edge with the least label out of the queue, by moving the last one to its place; none where no edge waits.
     #[tactic(auto, using(crate::proofs::Slots::filled_within))]
     pub(super) fn take_least(&mut self) -> Option<u16>
         ensures stays { Stays self.old self.new }
         ensures takes { MatchOption result ((self.old.len ≡ 0) × (self.new ≡ self.old)) (λ e. (e < length self.new.labels.now) × Takes R.TurnRule C.CostKind self.old self.new e) }
+        ensures slots { IfSome result (λ e. TakenOut self.old self.new e) }
     {
         let at = self.least()?;
         let edge = self.queue[at].edge;

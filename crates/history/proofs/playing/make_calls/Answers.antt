@@ -20,10 +20,10 @@ loop-call-preserved g c =
     × Run g.R.TurnRule g.C.CostKind (length c.args.queue.now) s (take (c.loop-call.call-index + 1) c.args.calls.now) c.args.labels.now c.match-call.labels c.args.route.now c.match-call.route in
     elim c.match-call.branch [
       | in-Change w ↦ subst₂ G (sym w.drawing-is) (sym w.sheet-is) (
-        w.apply.ensures.after ∙ ap (λ t. next t w.in-Change.change) c.loop-call.invariant.0
+        w.make_change.ensures.after ∙ ap (λ t. next t w.in-Change.change) c.loop-call.invariant.0
             ∙ sym (more ∙ ap (λ x. next_call (after_calls s (calls_of g.R.TurnRule g.C.CostKind (length c.args.labels.now) (length c.args.queue.now) (length c.args.route.now) (take c.loop-call.call-index c.args.calls.now))) (call_of g.R.TurnRule g.C.CostKind (length c.args.labels.now) (length c.args.queue.now) (length c.args.route.now) x)) w.in-Change.is),
-        w.apply.ensures.lender ∙ c.loop-call.invariant.1,
-        λ all over. w.apply.ensures.over all (c.loop-call.invariant.2 all over),
+        w.make_change.ensures.lender ∙ c.loop-call.invariant.1,
+        λ all over. w.make_change.ensures.rows all (c.loop-call.invariant.2 all over),
         subst₂ (λ labels route. Run g.R.TurnRule g.C.CostKind (length c.args.queue.now) s (take (c.loop-call.call-index + 1) c.args.calls.now) c.args.labels.now labels c.args.route.now route) (sym w.labels-is) (sym w.route-is)
             (run_more_change g.R.TurnRule g.C.CostKind (length c.args.queue.now) s c.args.calls.now c.loop-call.call-index c.call-item.result w.in-Change.change c.args.labels.now c.loop-call.labels c.args.route.now c.loop-call.route (omega arith) c.call-item.is w.in-Change.is c.loop-call.invariant.3),
       )

@@ -18,3 +18,13 @@ returns-clause-takes g c =
           let r = taking g.R.TurnRule g.C.CostKind (asked_of s) s.labels.now s.queue.now s.len c.in_ok-at.at (working_of s) c.in_ok-at.ensures.value.0 c.in_ok-at.ensures.value.1 a n i.inv in
           (r.0, record { fine = i.fine; relaxing = r.1 }),
     )
+
+pub returns-clause-slots : goal.returns-clause-slots
+returns-clause-slots g c = record {
+  at = c.in_ok-at.at;
+  there = c.in_ok-at.ensures.value.0;
+  value = search rules;
+  after = search rules;
+  count = search rules;
+  labels = search rules;
+}
