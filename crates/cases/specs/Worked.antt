@@ -12,6 +12,7 @@ use Rattle.turns.specs.Sectors.{Limits}
 use Rattle.turns.specs.Turns.{angle, class_of}
 use Rattle.turns.specs.declared.class.Class.TheVariants.{Straight, BearRight, SharpRight, Left}
 use Rattle.plan.specs.Plans.{Plan}
+use Rattle.plan.specs.Studies.{row_of}
 use Rattle.plan.specs.declared.row.EdgeRow.{EdgeRow}
 use Rattle.rules.specs.Ambiguity.{ambiguity_charge}
 use Rattle.rules.specs.Slots.{slots_charge}
@@ -21,7 +22,7 @@ abbrev pub limits : ℕ → ℕ → ℕ → Limits
 limits s b h = record { s = s; b = b; h = h }
 
 abbrev pub row : ℕ → ℕ → ℕ → ℕ → EdgeRow
-row start end leaving arriving = record { start = start; end = end; length = 100; leaving = leaving; arriving = arriving }
+row start end leaving arriving = row_of (record { start = start; end = end; length = 100; leaving = leaving; arriving = arriving })
 
 abbrev pub hall : Limits → List EdgeRow → Plan
 hall l rows = record { limits = l; edges = rows }

@@ -15,7 +15,7 @@ pub(crate) fn edge_between(edges: &[EdgeRow], start: u32, end: u32) -> Option<us
 pub(crate) fn leaving_count(edges: &[EdgeRow], junction: u32) -> usize
     ensures value { result ≡ count_by (leaves junction) edges.now }
 {
-    // A loop and no chain: `degree` is asked for every charge of slots, and `filter(..).count()` takes three times as long over the rows.
+    // A loop and no chain: slots asks for the degree at every turn, and `filter(..).count()` takes twice the time over the rows.
     let mut count: usize = 0;
     for row in edges {
         if u32::from(row.start) == junction {

@@ -11,7 +11,7 @@
 --   Stays s s'             s' is a search over the ground of s and the labels that were lent to s
 --   Keeps T K s s' e k j   where the steps of e are relaxed up to the edge k in s, they are so up to the edge j in s'
 --   Takes T K s s' e       where the loop's invariant holds in s, e is taken in s', and none of its steps is relaxed yet
---   TakenOut s s' e       e stood in a slot of the queue of s, and the last slot was moved there in s'; the labels stay
+--   TakenOut s s' e        e stood in a slot of the queue of s, and the last slot was moved there in s'; the labels stay
 --   PutIn s s' f           the queue of s' is that of s, or f was written behind it
 --   Explored T K q ls      the labels ls after the whole search: each is Fine, none is of more edges than are drawn, and the labelling is certified
 --   Opens K q x            x is the label of the walk of the first edge of the question q alone
